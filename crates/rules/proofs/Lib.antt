@@ -1,0 +1,4 @@
+-- Laws of the definitions in specs/, for the proofs of the crates above.
+pub mod SumLaws
+pub mod FrameLaws
+pub mod RefusalLaws

@@ -1,0 +1,240 @@
+-- Laws of refusal numbers: what an accepted call knows of its sizes, and the answers of a refused one.
+use mathlib.Core.Path.{_≡_, refl}
+use mathlib.Core.Bool.{Bool, true, false, _||_, not, true≢false}
+use mathlib.Core.List.{List}
+use Prim.Native.Nat.{ℕ, zero, suc, _*_, _/_, _≤_, _<_}
+use native.Mathlib.Nat.{mul-le-mul}
+use native.Mathlib.Omega.{arith}
+use lib.Dec.{ltb, eqb}
+use borrow.Author.Tests.{ltb-false, eqb-false, eqb-true, not-false}
+use Rattle.rules.specs.declared.Written.{Written}
+use Rattle.rules.specs.declared.Counted.{Counted}
+use Rattle.rules.specs.declared.Thresholded.{Thresholded}
+use Rattle.rules.specs.Limits.{maxSide, maxTolerance}
+use Rattle.rules.specs.Bitmaps.{rowWords}
+use Rattle.rules.specs.Refusals.{_when_, _orElse_, badSide, badSize, unhalvable, badTolerance, badPercentile, wrongLength, short, rasterLength, greyLength, bitmapLength, greyRefusal, halveRefusal, thresholdRefusal, bitmapsRefusal, shiftRefusal, totalRefusal, differenceRefusal}
+use Rattle.rules.specs.Answers.{written, counted, thresholded, lent}
+
+-- A number that is not given: its condition does not apply.
+pub when-no : (n : ℕ) (c : Bool) → 0 < n → n when c ≡ 0 → c ≡ false
+when-no n true l e = absurd (omega arith)
+when-no n false l e = refl
+
+pub orElse-no : (a b : ℕ) → a orElse b ≡ 0 → (a ≡ 0) × (b ≡ 0)
+orElse-no zero b e = (refl, e)
+orElse-no (suc a) b e = absurd (omega arith)
+
+pub or-no : (a b : Bool) → a || b ≡ false → (a ≡ false) × (b ≡ false)
+or-no true b e = absurd (true≢false e)
+or-no false b e = (refl, e)
+
+-- sizes within their limits
+pub record SizeOk (w h : ℕ) : Type 0 where
+  pub wide : 0 < w
+  pub width : w ≤ 4096
+  pub high : 0 < h
+  pub height : h ≤ 4096
+  pub area : w * h ≤ 16777216
+
+side-ok : (n : ℕ) → badSide n ≡ false → (0 < n) × (n ≤ 4096)
+unfolding badSide
+side-ok n e =
+    let p = or-no (eqb n 0) (ltb maxSide n) e in
+    let q = eqb-false n 0 (p .0) in
+    (omega arith, ltb-false maxSide n (p .1))
+
+pub size-ok : (w h : ℕ) → 2 when badSize w h ≡ 0 → SizeOk w h
+unfolding badSize
+size-ok w h e =
+    let p = or-no (badSide w) (badSide h) (when-no 2 (badSide w || badSide h) (omega arith) e) in
+    let a = side-ok w (p .0) in
+    let b = side-ok h (p .1) in
+    record { wide = a .0; width = a .1; high = b .0; height = b .1; area = mul-le-mul (a .1) (b .1) }
+
+length-is : (needed length : ℕ) → wrongLength needed length ≡ false → length ≡ needed
+length-is needed length e = eqb-true length needed (not-false (eqb length needed) e)
+
+-- What an accepted call knows.
+pub record GreyOk (w h raster grey : ℕ) : Type 0 where
+  pub size : SizeOk w h
+  pub exact : raster ≡ 3 * (w * h)
+  pub room : w * h ≤ grey
+
+pub grey-ok : (w h raster grey : ℕ) → greyRefusal w h raster grey ≡ 0 → GreyOk w h raster grey
+unfolding greyRefusal
+grey-ok w h raster grey e =
+    let p = orElse-no (2 when badSize w h) (9 when wrongLength (rasterLength w h) raster orElse 10 when short (greyLength w h) grey) e in
+    let q = orElse-no (9 when wrongLength (rasterLength w h) raster) (10 when short (greyLength w h) grey) (p .1) in
+    record {
+      size = size-ok w h (p .0);
+      exact = length-is (rasterLength w h) raster (when-no 9 (wrongLength (rasterLength w h) raster) (omega arith) (q .0));
+      room = ltb-false grey (greyLength w h) (when-no 10 (short (greyLength w h) grey) (omega arith) (q .1));
+    }
+
+pub record HalveOk (w h grey out : ℕ) : Type 0 where
+  pub size : SizeOk w h
+  pub wide : 2 ≤ w
+  pub high : 2 ≤ h
+  pub exact : grey ≡ w * h
+  pub room : w / 2 * (h / 2) ≤ out
+
+pub halve-ok : (w h grey out : ℕ) → halveRefusal w h grey out ≡ 0 → HalveOk w h grey out
+unfolding halveRefusal unhalvable
+halve-ok w h grey out e =
+    let n10 : ℕ = 10 when short (greyLength (w / 2) (h / 2)) out in
+    let n9 : ℕ = 9 when wrongLength (greyLength w h) grey in
+    let n4 : ℕ = 4 when unhalvable w h in
+    let p = orElse-no (2 when badSize w h) (n4 orElse n9 orElse n10) e in
+    let q = orElse-no n4 (n9 orElse n10) (p .1) in
+    let r = orElse-no n9 n10 (q .1) in
+    let s = or-no (ltb w 2) (ltb h 2) (when-no 4 (ltb w 2 || ltb h 2) (omega arith) (q .0)) in
+    record {
+      size = size-ok w h (p .0);
+      wide = ltb-false w 2 (s .0);
+      high = ltb-false h 2 (s .1);
+      exact = length-is (greyLength w h) grey (when-no 9 (wrongLength (greyLength w h) grey) (omega arith) (r .0));
+      room = ltb-false out (greyLength (w / 2) (h / 2)) (when-no 10 (short (greyLength (w / 2) (h / 2)) out) (omega arith) (r .1));
+    }
+
+pub record ThresholdOk (w h percentile grey : ℕ) : Type 0 where
+  pub size : SizeOk w h
+  pub least : 1 ≤ percentile
+  pub most : percentile ≤ 99
+  pub exact : grey ≡ w * h
+
+percentile-ok : (p : ℕ) → badPercentile p ≡ false → (1 ≤ p) × (p ≤ 99)
+unfolding badPercentile
+percentile-ok p e = at17 (eqb p 17) refl
+  where
+    at83 : (t : Bool) → eqb p 83 ≡ t → eqb p 17 ≡ false → eqb p 50 ≡ false → (1 ≤ p) × (p ≤ 99)
+    at83 true t a b = let z = eqb-true p 83 t in omega arith
+    at83 false t a b = absurd (true≢false (simp (a, b, t) at e))
+
+    at50 : (t : Bool) → eqb p 50 ≡ t → eqb p 17 ≡ false → (1 ≤ p) × (p ≤ 99)
+    at50 true t a = let z = eqb-true p 50 t in omega arith
+    at50 false t a = at83 (eqb p 83) refl a t
+
+    at17 : (t : Bool) → eqb p 17 ≡ t → (1 ≤ p) × (p ≤ 99)
+    at17 true t = let z = eqb-true p 17 t in omega arith
+    at17 false t = at50 (eqb p 50) refl t
+
+pub threshold-ok : (w h percentile grey : ℕ) → thresholdRefusal w h percentile grey ≡ 0 → ThresholdOk w h percentile grey
+unfolding thresholdRefusal
+threshold-ok w h percentile grey e =
+    let n9 : ℕ = 9 when wrongLength (greyLength w h) grey in
+    let n8 : ℕ = 8 when badPercentile percentile in
+    let p = orElse-no (2 when badSize w h) (n8 orElse n9) e in
+    let q = orElse-no n8 n9 (p .1) in
+    let r = percentile-ok percentile (when-no 8 (badPercentile percentile) (omega arith) (q .0)) in
+    record {
+      size = size-ok w h (p .0);
+      least = r .0;
+      most = r .1;
+      exact = length-is (greyLength w h) grey (when-no 9 (wrongLength (greyLength w h) grey) (omega arith) (q .1));
+    }
+
+pub record BitmapsOk (w h tolerance grey thresholds exclusions : ℕ) : Type 0 where
+  pub size : SizeOk w h
+  pub most : tolerance ≤ 64
+  pub exact : grey ≡ w * h
+  pub room1 : rowWords w * h ≤ thresholds
+  pub room2 : rowWords w * h ≤ exclusions
+
+pub bitmaps-ok : (w h tolerance grey thresholds exclusions : ℕ) → bitmapsRefusal w h tolerance grey thresholds exclusions ≡ 0
+    → BitmapsOk w h tolerance grey thresholds exclusions
+unfolding bitmapsRefusal badTolerance
+bitmaps-ok w h tolerance grey thresholds exclusions e =
+    let short1 : Bool = short (bitmapLength w h) thresholds in
+    let short2 : Bool = short (bitmapLength w h) exclusions in
+    let n10 : ℕ = 10 when (short1 || short2) in
+    let n9 : ℕ = 9 when wrongLength (greyLength w h) grey in
+    let n5 : ℕ = 5 when badTolerance tolerance in
+    let p = orElse-no (2 when badSize w h) (n5 orElse n9 orElse n10) e in
+    let q = orElse-no n5 (n9 orElse n10) (p .1) in
+    let r = orElse-no n9 n10 (q .1) in
+    let s = or-no short1 short2 (when-no 10 (short1 || short2) (omega arith) (r .1)) in
+    record {
+      size = size-ok w h (p .0);
+      most = ltb-false maxTolerance tolerance (when-no 5 (badTolerance tolerance) (omega arith) (q .0));
+      exact = length-is (greyLength w h) grey (when-no 9 (wrongLength (greyLength w h) grey) (omega arith) (r .0));
+      room1 = ltb-false thresholds (bitmapLength w h) (s .0);
+      room2 = ltb-false exclusions (bitmapLength w h) (s .1);
+    }
+
+pub record ShiftOk (w h bitmap out : ℕ) : Type 0 where
+  pub size : SizeOk w h
+  pub exact : bitmap ≡ rowWords w * h
+  pub room : rowWords w * h ≤ out
+
+pub shift-ok : (w h bitmap out : ℕ) → shiftRefusal w h bitmap out ≡ 0 → ShiftOk w h bitmap out
+unfolding shiftRefusal
+shift-ok w h bitmap out e =
+    let n10 : ℕ = 10 when short (bitmapLength w h) out in
+    let n9 : ℕ = 9 when wrongLength (bitmapLength w h) bitmap in
+    let p = orElse-no (2 when badSize w h) (n9 orElse n10) e in
+    let q = orElse-no n9 n10 (p .1) in
+    record {
+      size = size-ok w h (p .0);
+      exact = length-is (bitmapLength w h) bitmap (when-no 9 (wrongLength (bitmapLength w h) bitmap) (omega arith) (q .0));
+      room = ltb-false out (bitmapLength w h) (when-no 10 (short (bitmapLength w h) out) (omega arith) (q .1));
+    }
+
+pub record TotalOk (w h bitmap : ℕ) : Type 0 where
+  pub size : SizeOk w h
+  pub exact : bitmap ≡ rowWords w * h
+
+pub total-ok : (w h bitmap : ℕ) → totalRefusal w h bitmap ≡ 0 → TotalOk w h bitmap
+unfolding totalRefusal
+total-ok w h bitmap e =
+    let n9 : ℕ = 9 when wrongLength (bitmapLength w h) bitmap in
+    let p = orElse-no (2 when badSize w h) n9 e in
+    record {
+      size = size-ok w h (p .0);
+      exact = length-is (bitmapLength w h) bitmap (when-no 9 (wrongLength (bitmapLength w h) bitmap) (omega arith) (p .1));
+    }
+
+pub record DifferenceOk (w h threshold1 exclusion1 threshold2 exclusion2 : ℕ) : Type 0 where
+  pub size : SizeOk w h
+  pub exact1 : threshold1 ≡ rowWords w * h
+  pub exact2 : exclusion1 ≡ rowWords w * h
+  pub exact3 : threshold2 ≡ rowWords w * h
+  pub exact4 : exclusion2 ≡ rowWords w * h
+
+pub difference-ok : (w h threshold1 exclusion1 threshold2 exclusion2 : ℕ)
+    → differenceRefusal w h threshold1 exclusion1 threshold2 exclusion2 ≡ 0
+    → DifferenceOk w h threshold1 exclusion1 threshold2 exclusion2
+unfolding differenceRefusal
+difference-ok w h threshold1 exclusion1 threshold2 exclusion2 e =
+    let n : ℕ = bitmapLength w h in
+    let c1 : Bool = wrongLength n threshold1 in
+    let c2 : Bool = wrongLength n exclusion1 in
+    let c3 : Bool = wrongLength n threshold2 in
+    let c4 : Bool = wrongLength n exclusion2 in
+    let p = orElse-no (2 when badSize w h) (9 when (c1 || (c2 || (c3 || c4)))) e in
+    let q = or-no c1 (c2 || (c3 || c4)) (when-no 9 (c1 || (c2 || (c3 || c4))) (omega arith) (p .1)) in
+    let r = or-no c2 (c3 || c4) (q .1) in
+    let s = or-no c3 c4 (r .1) in
+    record {
+      size = size-ok w h (p .0);
+      exact1 = length-is n threshold1 (q .0);
+      exact2 = length-is n exclusion1 (r .0);
+      exact3 = length-is n threshold2 (s .0);
+      exact4 = length-is n exclusion2 (s .1);
+    }
+
+-- A refused call: its answer is its number, and a lent buffer holds what it held.
+pub written-refused : (n : ℕ) → (n ≡ 0 → ⊥) → Written.Refused n ≡ written n
+written-refused zero l = absurd (l refl)
+written-refused (suc n) l = refl
+
+pub counted-refused : (n v : ℕ) → (n ≡ 0 → ⊥) → Counted.Refused n ≡ counted n v
+counted-refused zero v l = absurd (l refl)
+counted-refused (suc n) v l = refl
+
+pub thresholded-refused : (n v : ℕ) → (n ≡ 0 → ⊥) → Thresholded.Refused n ≡ thresholded n v
+thresholded-refused zero v l = absurd (l refl)
+thresholded-refused (suc n) v l = refl
+
+pub lent-refused : (n : ℕ) (out before : List ℕ) → (n ≡ 0 → ⊥) → before ≡ lent n out before
+lent-refused zero out before l = absurd (l refl)
+lent-refused (suc n) out before l = refl

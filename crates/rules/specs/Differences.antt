@@ -1,0 +1,26 @@
+-- The difference count of two frames' bit planes.
+use mathlib.Core.Bool.{_&&_, not}
+use Prim.Native.Nat.{ℕ}
+use lib.Dec.{eqb}
+use lib.IntN.{ℤ, pos, _-ℤ_}
+use Rattle.rules.specs.Sums.{oneIf, sumPixels}
+use Rattle.rules.specs.Frames.{Frame}
+use Rattle.rules.specs.Planes.{within}
+
+-- a frame's two bit planes
+pub record Planes : Type 0 where
+  pub threshold : Frame
+  pub exclusion : Frame
+
+-- 1 for two pixels "with both exclusion bits 1 and the threshold bits unequal", else 0
+unfoldable pub differ : Planes → Planes → ℕ → ℕ → ℕ → ℕ → ℕ
+differ a b x y x′ y′ =
+    oneIf (eqb (a .exclusion x y) 1 && (eqb (b .exclusion x′ y′) 1 && not (eqb (a .threshold x y) (b .threshold x′ y′))))
+
+-- pixel (x, y) against its "partner (x−dx, y−dy) in the second frame", 0 unless the partner "lies in it"
+unfoldable pub differAt : ℕ → ℕ → ℤ → ℤ → Planes → Planes → Frame
+differAt w h dx dy a b x y = within w (pos x -ℤ dx) (λ x′. within h (pos y -ℤ dy) (λ y′. differ a b x y x′ y′))
+
+-- "Difference count at (dx,dy)"
+unfoldable pub difference : ℕ → ℕ → ℤ → ℤ → Planes → Planes → ℕ
+difference w h dx dy a b = sumPixels w h (differAt w h dx dy a b)

@@ -1,0 +1,18 @@
+-- The limits that document 01 sets, by name.
+use Prim.Native.Nat.{ℕ}
+
+-- "A frame has width w and height h, each 1 to 4096."
+abbrev pub maxSide : ℕ
+maxSide = 4096
+
+-- "T is the tolerance, 0 to 64."
+abbrev pub maxTolerance : ℕ
+maxTolerance = 64
+
+-- the brightest grey value that a byte holds
+abbrev pub maxGrey : ℕ
+maxGrey = 255
+
+-- "A bitmap row is W = ceil(w/64) words of 64 bits."
+abbrev pub wordBits : ℕ
+wordBits = 64
