@@ -44,7 +44,8 @@ unfoldable pub planesBy : Exclusion → ℕ → ℕ → ℕ → Frame → Planes
 planesBy exclusion percentile w h f =
     record {
       threshold = bitsBy (thresholdBit (threshold w h percentile f)) f;
-      exclusion = bitsBy (exclusion (λ p. threshold w h p f) percentile) f }
+      exclusion = bitsBy (exclusion (λ p. threshold w h p f) percentile) f;
+    }
 
 -- "The first with the least count" of best and the others after it
 unfoldable pub firstLeast : (Offset → ℕ) → Offset → List Offset → Offset
@@ -67,7 +68,8 @@ unfoldable pub level : List Offset → (Offset → ℕ) → Offset → List ℕ 
 level order count centre coarser =
     record {
       offset = chosen count (map (added centre) order);
-      counts = coarser ++ map count (map (added centre) wardOrder) }
+      counts = coarser ++ map count (map (added centre) wardOrder);
+    }
 
 -- the difference count of two grey frames at a candidate, "both frames with the same P"
 unfoldable pub countAt : Exclusion → ℕ → ℕ → ℕ → Frame → Frame → Offset → ℕ
