@@ -1,0 +1,2 @@
+-- The proof of the re-exposure theorem, lowest first.
+pub mod Links
