@@ -49,6 +49,7 @@ module _ (Q : ℕ → ℕ → Type 0) (link : Link Q) where
           let a : min v u ≡ v = omega arith in
           let b : min v′ u′ ≡ v′ = omega arith in
           rw (a, b) p
+
       other : u ≤ v → Q (min v u) (min v′ u′)
       other l =
           let m = same-le u u′ v v′ q p l in
@@ -65,6 +66,7 @@ module _ (Q : ℕ → ℕ → Type 0) (link : Link Q) where
           let a : max v u ≡ u = omega arith in
           let b : max v′ u′ ≡ u′ = omega arith in
           rw (a, b) q
+
       other : u ≤ v → Q (max v u) (max v′ u′)
       other l =
           let m = same-le u u′ v v′ q p l in
@@ -101,8 +103,8 @@ module _ (Q : ℕ → ℕ → Type 0) (link : Link Q) where
     same-least v v′ q =
         threshold-leb w h percentile g (omega arith) low v (link .low v v′ q)
         ∙ ap (λ (n : ℕ). leb (percentile * (w * h)) (100 * n))
-          (pixels-ext w h (λ x y. oneIf (leb (g x y) v)) (λ x y. oneIf (leb (g′ x y) v′))
-          (λ x y k l. ap oneIf (same-leb (g x y) (g′ x y) v v′ (linked x y k l) q)))
+        (pixels-ext w h (λ x y. oneIf (leb (g x y) v)) (λ x y. oneIf (leb (g′ x y) v′))
+        (λ x y k l. ap oneIf (same-leb (g x y) (g′ x y) v v′ (linked x y k l) q)))
         ∙ sym (threshold-leb w h percentile g′ (omega arith) low′ v′ (link .low′ v v′ q))
 
     same-ltb : (v v′ u u′ : ℕ) → Q v v′ → Q u u′ → ltb v u ≡ ltb v′ u′
@@ -117,8 +119,8 @@ module _ (Q : ℕ → ℕ → Type 0) (link : Link Q) where
         let p : 0 < percentile * (w * h) = mul-pos some area in
         threshold-ltb w h percentile g (omega arith) p low v (link .low v v′ q)
         ∙ ap (λ (n : ℕ). leb (percentile * (w * h)) (100 * n))
-          (pixels-ext w h (λ x y. oneIf (ltb (g x y) v)) (λ x y. oneIf (ltb (g′ x y) v′))
-          (λ x y k l. ap oneIf (same-ltb (g x y) (g′ x y) v v′ (linked x y k l) q)))
+        (pixels-ext w h (λ x y. oneIf (ltb (g x y) v)) (λ x y. oneIf (ltb (g′ x y) v′))
+        (λ x y k l. ap oneIf (same-ltb (g x y) (g′ x y) v v′ (linked x y k l) q)))
         ∙ sym (threshold-ltb w h percentile g′ (omega arith) p low′ v′ (link .low′ v v′ q))
 
 -- An exclusion rule that sees a level's thresholds only by comparing them with the grey value.
@@ -136,11 +138,14 @@ pub same-planes : (Q : ℕ → ℕ → Type 0) → Link Q → (exclusion : Exclu
     → SamePlanes w h (planesBy exclusion percentile w h g) (planesBy exclusion percentile w h g′)
 unfolding planesBy thresholdBit
 same-planes Q link exclusion percentile w h g g′ fair some most linked = record {
-    thresholds = λ x y k l. ap oneIf (same-above Q link w h percentile g g′ linked some most (g x y) (g′ x y) (area w h x y k l) (linked x y k l));
-    exclusions = λ x y k l.
+  thresholds = λ x y k l. ap oneIf (same-above Q link w h percentile g g′ linked some most (g x y) (g′ x y) (area w h x y k l) (linked x y k l));
+  exclusions = λ x y k l.
       fair .fair (λ p. threshold w h p g) (λ p. threshold w h p g′) (g x y) (g′ x y)
-      (λ p a b. (same-above Q link w h p g g′ linked a b (g x y) (g′ x y) (area w h x y k l) (linked x y k l),
-        same-least Q link w h p g g′ linked a b (g x y) (g′ x y) (linked x y k l))) }
+      (λ p a b. (
+        same-above Q link w h p g g′ linked a b (g x y) (g′ x y) (area w h x y k l) (linked x y k l),
+        same-least Q link w h p g g′ linked a b (g x y) (g′ x y) (linked x y k l),
+      ));
+}
 
 -- At tolerance 0 a pixel is excluded exactly where its grey is the threshold.
 apart : Bool → Bool → ℕ
@@ -154,19 +159,22 @@ exclusion-apart t v = ⊎-elim over under (order t v)
   where
     over : t < v → oneIf (ltb 0 (max v t - min v t)) ≡ apart (ltb t v) (leb t v)
     over l = rw (lt-ltb 0 (max v t - min v t) (omega arith), lt-ltb t v l)
+
     under : v ≤ t → oneIf (ltb 0 (max v t - min v t)) ≡ apart (ltb t v) (leb t v)
     under l = ⊎-elim less same (order v t)
       where
         less : v < t → oneIf (ltb 0 (max v t - min v t)) ≡ apart (ltb t v) (leb t v)
         less m = rw (lt-ltb 0 (max v t - min v t) (omega arith), le-ltb t v l, lt-leb t v m)
+
         same : t ≤ v → oneIf (ltb 0 (max v t - min v t)) ≡ apart (ltb t v) (leb t v)
         same m = rw (le-ltb 0 (max v t - min v t) (omega arith), le-ltb t v l, le-leb t v m)
 
 pub fair-zero : (tolerance percentile : ℕ) → tolerance ≡ 0 → 1 ≤ percentile → percentile ≤ 99 → Fair (byTolerance tolerance) percentile
 fair-zero tolerance percentile e some most = record {
-    fair = λ t t′ v v′ tests.
+  fair = λ t t′ v v′ tests.
       ap (λ (n : ℕ). exclusionBit (t percentile) n v) e
       ∙ exclusion-apart (t percentile) v
       ∙ ap₂ apart (tests percentile some most .0) (tests percentile some most .1)
       ∙ sym (exclusion-apart (t′ percentile) v′)
-      ∙ ap (λ (n : ℕ). exclusionBit (t′ percentile) n v′) (sym e) }
+      ∙ ap (λ (n : ℕ). exclusionBit (t′ percentile) n v′) (sym e);
+}

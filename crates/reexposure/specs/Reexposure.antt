@@ -26,3 +26,13 @@ pub record Sound (S : Settings) : Type 0 where
 pub record Bounded (S : Settings) (answer : Answer) : Type 0 where
   pub dx : (k : ℕ) → k < S .frames → natAbs (getD (answer .offsets) (2 * k) (pos 0)) ≤ distance k (S .reference) * (2 ^ suc (S .halvings) - 1)
   pub dy : (k : ℕ) → k < S .frames → natAbs (getD (answer .offsets) (2 * k + 1) (pos 0)) ≤ distance k (S .reference) * (2 ^ suc (S .halvings) - 1)
+
+-- what holds of a series F and of F′, F re-exposed: the same answer, offsets and counts, and both bounded
+pub record Alike (S : Settings) (F F′ : List ℕ) : Type 0 where
+  pub same : seriesAnswer S F ≡ seriesAnswer S F′
+  pub bound : Bounded S (seriesAnswer S F)
+  pub bound′ : Bounded S (seriesAnswer S F′)
+
+-- Demand 3 of the definitions: one statement about whole series and every re-exposed one (proved in proofs/Theorem.antt as `demand3`)
+abbrev pub Demand3 : Type 0
+Demand3 = (S : Settings) (F F′ : List ℕ) → Sound S → S .tolerance ≡ 0 → Bytes F → Bytes F′ → Reexposed S F F′ → Alike S F F′

@@ -29,6 +29,6 @@ unfolding difference differAt differ
 difference-ext w h dx dy a a′ b b′ p q =
     pixels-ext w h (differAt w h dx dy a b) (differAt w h dx dy a′ b′)
     (λ x y k l.
-      within-ext w (pos x -ℤ dx) (λ u. within h (pos y -ℤ dy) (λ v. differ a b x y u v)) (λ u. within h (pos y -ℤ dy) (λ v. differ a′ b′ x y u v))
-      (λ u m. within-ext h (pos y -ℤ dy) (λ v. differ a b x y u v) (λ v. differ a′ b′ x y u v)
-        (λ v n. rw (p .thresholds x y k l, p .exclusions x y k l, q .thresholds u v m n, q .exclusions u v m n))))
+    within-ext w (pos x -ℤ dx) (λ u. within h (pos y -ℤ dy) (λ v. differ a b x y u v)) (λ u. within h (pos y -ℤ dy) (λ v. differ a′ b′ x y u v))
+    (λ u m. within-ext h (pos y -ℤ dy) (λ v. differ a b x y u v) (λ v. differ a′ b′ x y u v)
+    (λ v n. rw (p .thresholds x y k l, p .exclusions x y k l, q .thresholds u v m n, q .exclusions u v m n))))

@@ -82,6 +82,7 @@ threshold-leb w h percentile f most low v l = least-leb maxGrey (reaches w h per
         let a = leb-true (percentile * (w * h)) (100 * atMost w h f u) e in
         let b = at-most-more w h f u in
         le-leb (percentile * (w * h)) (100 * atMost w h f (suc u)) (omega arith)
+
     last : reaches w h percentile f 255 ≡ true
     last =
         let a : atMost w h f 255 ≡ h * w = pixels-all w h (λ x y. oneIf (leb (f x y) 255)) (λ x y k l. ap oneIf (le-leb (f x y) 255 (low x y k l))) in
