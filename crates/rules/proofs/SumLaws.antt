@@ -2,7 +2,7 @@
 use mathlib.Core.Path.{_≡_, refl, sym, ap, ap₂, _∙_}
 use mathlib.Core.Bool.{Bool, true, false}
 use mathlib.Core.Logic.{_⊎_, inl, inr}
-use Prim.Native.Nat.{ℕ, zero, suc, _+_, _*_, _≤_, _<_}
+use Prim.Native.Nat.{ℕ, zero, suc, _+_, _*_, _-_, _≤_, _<_}
 use native.Mathlib.Decide.{decLt}
 use native.Mathlib.Nat.{lt-of-not-le, le-refl}
 use native.Mathlib.Numerals.{add-one}
@@ -43,6 +43,11 @@ sum-le (suc n) b f e =
     let c = e n (omega arith) in
     rw (native.Mathlib.Nat.suc-mul n b) (omega arith)
 
+pub sum-all : (n : ℕ) (f : ℕ → ℕ) → ((i : ℕ) → i < n → f i ≡ 1) → sum n f ≡ n
+unfolding sum
+sum-all zero f e = refl
+sum-all (suc n) f e = let a = sum-all n f (λ i l. e i (omega arith)) in let b = e n (omega arith) in omega arith
+
 pub sum-add : (n : ℕ) (f g : ℕ → ℕ) → sum n f + sum n g ≡ sum n (λ i. f i + g i)
 unfolding sum
 sum-add zero f g = refl
@@ -53,6 +58,13 @@ unfolding sum
 sum-split m zero f = ap (λ (k : ℕ). sum k f) (native.Mathlib.Nat.add-zero m) ∙ sym (native.Mathlib.Nat.add-zero (sum m f))
 sum-split m (suc n) f =
     ap (λ (k : ℕ). sum k f) (native.Mathlib.Nat.add-suc m n) ∙ (let a = sum-split m n f in omega arith)
+
+-- the first m of n summands
+pub sum-part : (m n : ℕ) (f : ℕ → ℕ) → m ≤ n → sum m f ≤ sum n f
+sum-part m n f l =
+    let a = sum-split m (n - m) f in
+    let b : sum (m + (n - m)) f ≡ sum n f = ap (λ (k : ℕ). sum k f) (omega arith) in
+    omega arith
 
 pub pixels-ext : (w h : ℕ) (f g : ℕ → ℕ → ℕ) → ((x y : ℕ) → x < w → y < h → f x y ≡ g x y) → sumPixels w h f ≡ sumPixels w h g
 unfolding sumPixels
