@@ -1,0 +1,70 @@
+-- Laws of counting: what one more pixel does to a table and to a count.
+use mathlib.Core.Path.{_≡_, refl, sym, ap, _∙_}
+use mathlib.Core.Bool.{Bool, true, false}
+use mathlib.Core.List.{List}
+use mathlib.Core.Logic.{_⊎_, inl, inr, ⊎-elim}
+use Prim.Native.Nat.{ℕ, zero, suc, _+_, _*_, _≤_, _<_}
+use native.Mathlib.Omega.{arith}
+use lib.Dec.{eqb}
+use lib.ListN.{length, getD, set, length-set}
+use lib.Seq.{getD-set-same, getD-set-other}
+use borrow.Author.Tests.{eqb-true, eqb-false}
+use Rattle.rules.specs.Sums.{oneIf, sum}
+use Rattle.rules.proofs.SumLaws.{gate-le, sum-none, sum-more, sum-le}
+use Rattle.threshold.specs.Flat.{countTo, Bumped, four, Tally}
+
+-- A table after one more of the value k.
+pub bumped : (t : List ℕ) (k : ℕ) → k < length t → Bumped k t (set t k (getD t k 0 + 1))
+bumped t k l = record { size = length-set t k (getD t k 0 + 1); counts = λ v. split v (eqb k v) refl }
+  where
+    split : (v : ℕ) (b : Bool) → eqb k v ≡ b → getD (set t k (getD t k 0 + 1)) v 0 ≡ getD t v 0 + oneIf b
+    split v true e =
+        let d = eqb-true k v e in
+        ap (λ (j : ℕ). getD (set t k (getD t k 0 + 1)) j 0) (sym d)
+        ∙ getD-set-same t k (getD t k 0 + 1) 0 l
+        ∙ ap (λ (j : ℕ). getD t j 0 + 1) d
+    split v false e = let d = eqb-false k v e in getD-set-other t k v (getD t k 0 + 1) 0 (λ q. d (sym q)) ∙ omega arith
+
+pub count-none : (l : List ℕ) (v : ℕ) → countTo l 0 v ≡ 0
+unfolding countTo
+count-none l v = sum-none (λ i. oneIf (eqb (getD l i 0) v))
+
+pub count-more : (l : List ℕ) (n v : ℕ) → countTo l (n + 1) v ≡ countTo l n v + oneIf (eqb (getD l n 0) v)
+unfolding countTo
+count-more l n v = sum-more n (λ i. oneIf (eqb (getD l i 0) v))
+
+pub count-le : (l : List ℕ) (n v : ℕ) → countTo l n v ≤ n
+unfolding countTo
+count-le l n v = let a = sum-le n 1 (λ i. oneIf (eqb (getD l i 0) v)) (λ i k. gate-le (eqb (getD l i 0) v) 1) in omega arith
+
+count-four : (l : List ℕ) (n v : ℕ) → countTo l (n + 4) v
+    ≡ countTo l n v + oneIf (eqb (getD l n 0) v) + oneIf (eqb (getD l (n + 1) 0) v) + oneIf (eqb (getD l (n + 2) 0) v) + oneIf (eqb (getD l (n + 3) 0) v)
+count-four l n v =
+    ap (λ (k : ℕ). countTo l k v) (let e : n + 4 ≡ n + 3 + 1 = omega arith in e)
+    ∙ count-more l (n + 3) v
+    ∙ ap (λ (k : ℕ). countTo l k v + oneIf (eqb (getD l (n + 3) 0) v)) (let e : n + 3 ≡ n + 2 + 1 = omega arith in e)
+    ∙ ap (λ (k : ℕ). k + oneIf (eqb (getD l (n + 3) 0) v)) (count-more l (n + 2) v)
+    ∙ ap (λ (k : ℕ). countTo l k v + oneIf (eqb (getD l (n + 2) 0) v) + oneIf (eqb (getD l (n + 3) 0) v)) (let e : n + 2 ≡ n + 1 + 1 = omega arith in e)
+    ∙ ap (λ (k : ℕ). k + oneIf (eqb (getD l (n + 2) 0) v) + oneIf (eqb (getD l (n + 3) 0) v)) (count-more l (n + 1) v)
+    ∙ ap (λ (k : ℕ). k + oneIf (eqb (getD l (n + 1) 0) v) + oneIf (eqb (getD l (n + 2) 0) v) + oneIf (eqb (getD l (n + 3) 0) v)) (count-more l n v)
+
+-- Four tables of fewer pixels than a u32 counts have room for one more of any value.
+pub tally-room : (l : List ℕ) (n : ℕ) (a b c d : List ℕ) → n < 16777216 → Tally l n a b c d → (v : ℕ)
+    → (getD a v 0 < 16777216) × (getD b v 0 < 16777216) × (getD c v 0 < 16777216) × (getD d v 0 < 16777216)
+tally-room l n a b c d m t v = let e = t .counts v in let f = count-le l n v in omega arith
+
+-- a pixel into each table
+pub tally-more : (l : List ℕ) (n : ℕ) (a b c d a′ b′ c′ d′ : List ℕ) → Tally l n a b c d
+    → Bumped (getD l n 0) a a′ → Bumped (getD l (n + 1) 0) b b′ → Bumped (getD l (n + 2) 0) c c′ → Bumped (getD l (n + 3) 0) d d′
+    → Tally l (n + 4) a′ b′ c′ d′
+tally-more l n a b c d a′ b′ c′ d′ t p q r s = record {
+  sizes = omega arith;
+  counts = λ v.
+      let e = t .counts v in
+      let p = p .counts v in
+      let q = q .counts v in
+      let r = r .counts v in
+      let s = s .counts v in
+      let f = count-four l n v in
+      omega arith;
+}

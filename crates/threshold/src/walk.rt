@@ -1,0 +1,1 @@
+// The walk over the counts of the grey values.
