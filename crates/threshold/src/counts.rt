@@ -1,9 +1,9 @@
 // How often each grey value stands in a frame.
 
 ghost use mathlib.Core.Path.{_≡_};
-ghost use Prim.Native.Nat.{ℕ, _-_, _%_, _<_, _≤_};
+ghost use Prim.Native.Nat.{ℕ, _+_, _-_, _%_, _<_, _≤_};
 ghost use lib.ListN.{length, getD};
-ghost use Rattle.threshold.specs.Flat.{Bumped, Tally};
+ghost use Rattle.threshold.specs.Flat.{countTo, countIn, Bumped, four, Tally};
 
 // One more of a value.
 fn bump(table: &mut [u32; 256], value: u8)
@@ -34,4 +34,43 @@ fn count_fours(
         bump(d, grey[i + 3]);
         i += 4;
     }
+}
+
+// The pixels from a place on, which the turns of four leave over, into one table.
+fn count_rest(grey: &[u8], from: usize, table: &mut [u32; 256])
+    requires { ⌜ (from ≤ length (now grey)) × (length (now grey) ≤ 16777216) × (length (now table) ≡ 256) × ((v : ℕ) → getD (now table) v 0 ≤ countTo (now grey) from v) ⌝ }
+    ensures { λ _. ⌜ ((v : ℕ) → getD (now (table .exit)) v 0 + countTo (now (grey .entry)) from v ≡ getD (now (table .entry)) v 0 + countIn (now (grey .entry)) v) ⌝ }
+{
+    let mut i = from;
+    while i < grey.len() {
+        bump(table, grey[i]);
+        i += 1;
+    }
+}
+
+// The other three tables added to the first.
+fn merge(a: &mut [u32; 256], b: &[u32; 256], c: &[u32; 256], d: &[u32; 256])
+    requires { ⌜ (length (now a) ≡ 256) × ((v : ℕ) → four (now a) (now b) (now c) (now d) v ≤ 16777216) ⌝ }
+    ensures { λ _. ⌜ ((v : ℕ) → v < 256 → getD (now (a .exit)) v 0 ≡ four (now (a .entry)) (now (b .entry)) (now (c .entry)) (now (d .entry)) v) ⌝ }
+{
+    let mut v: usize = 0;
+    while v < 256 {
+        a[v] = a[v] + b[v] + c[v] + d[v];
+        v += 1;
+    }
+}
+
+// How often each of the 256 grey values stands in a frame.
+pub fn histogram(grey: &[u8]) -> [u32; 256]
+    requires { ⌜ length (now grey) ≤ 16777216 ⌝ }
+    ensures { λ r. ⌜ ((v : ℕ) → v < 256 → getD r v 0 ≡ countIn (now (grey .entry)) v) ⌝ }
+{
+    let mut a = [0u32; 256];
+    let mut b = [0u32; 256];
+    let mut c = [0u32; 256];
+    let mut d = [0u32; 256];
+    count_fours(grey, &mut a, &mut b, &mut c, &mut d);
+    count_rest(grey, grey.len() - grey.len() % 4, &mut a);
+    merge(&mut a, &b, &c, &d);
+    a
 }
