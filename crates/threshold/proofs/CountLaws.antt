@@ -6,12 +6,12 @@ use mathlib.Core.Logic.{_⊎_, inl, inr, ⊎-elim}
 use Prim.Native.Nat.{ℕ, zero, suc, _+_, _*_, _≤_, _<_}
 use native.Mathlib.Omega.{arith}
 use lib.Dec.{eqb}
-use lib.ListN.{length, getD, set, length-set}
+use lib.ListN.{length, getD, set, replicate, length-set, length-replicate}
 use lib.Seq.{getD-set-same, getD-set-other}
 use borrow.Author.Tests.{eqb-true, eqb-false}
 use Rattle.rules.specs.Sums.{oneIf, sum}
 use Rattle.rules.proofs.SumLaws.{gate-le, sum-none, sum-more, sum-le}
-use Rattle.threshold.specs.Flat.{countTo, Bumped, four, Tally}
+use Rattle.threshold.specs.Flat.{countTo, countIn, Bumped, four, Tally}
 
 -- A table after one more of the value k.
 pub bumped : (t : List ℕ) (k : ℕ) → k < length t → Bumped k t (set t k (getD t k 0 + 1))
@@ -48,6 +48,20 @@ count-four l n v =
     ∙ ap (λ (k : ℕ). k + oneIf (eqb (getD l (n + 2) 0) v) + oneIf (eqb (getD l (n + 3) 0) v)) (count-more l (n + 1) v)
     ∙ ap (λ (k : ℕ). k + oneIf (eqb (getD l (n + 1) 0) v) + oneIf (eqb (getD l (n + 2) 0) v) + oneIf (eqb (getD l (n + 3) 0) v)) (count-more l n v)
 
+abbrev pub zeros : ℕ → List ℕ
+zeros n = replicate n 0
+
+zero-at : (n v : ℕ) → getD (zeros n) v 0 ≡ 0
+zero-at zero v = refl
+zero-at (suc n) zero = refl
+zero-at (suc n) (suc v) = zero-at n v
+
+-- four tables of zeros
+pub tally-none : (l : List ℕ) → Tally l 0 (zeros 256) (zeros 256) (zeros 256) (zeros 256)
+tally-none l =
+    let z : length (zeros 256) ≡ 256 = length-replicate {A = ℕ} 256 0 in
+    record { sizes = (z, z, z, z); counts = λ v. let e = zero-at 256 v in let f = count-none l v in omega arith; }
+
 -- Four tables of fewer pixels than a u32 counts have room for one more of any value.
 pub tally-room : (l : List ℕ) (n : ℕ) (a b c d : List ℕ) → n < 16777216 → Tally l n a b c d → (v : ℕ)
     → (getD a v 0 < 16777216) × (getD b v 0 < 16777216) × (getD c v 0 < 16777216) × (getD d v 0 < 16777216)
@@ -68,3 +82,9 @@ tally-more l n a b c d a′ b′ c′ d′ t p q r s = record {
       let f = count-four l n v in
       omega arith;
 }
+
+-- the first table with the rest of the list: what the four then count
+pub tally-rest : (l : List ℕ) (n : ℕ) (a b c d a′ : List ℕ) → Tally l n a b c d
+    → ((v : ℕ) → getD a′ v 0 + countTo l n v ≡ getD a v 0 + countIn l v)
+    → (v : ℕ) → four a′ b c d v ≡ countIn l v
+tally-rest l n a b c d a′ t r v = let e = t .counts v in let f = r v in omega arith

@@ -39,7 +39,7 @@ fn count_fours(
 // The pixels from a place on, which the turns of four leave over, into one table.
 fn count_rest(grey: &[u8], from: usize, table: &mut [u32; 256])
     requires { ⌜ (from ≤ length (now grey)) × (length (now grey) ≤ 16777216) × (length (now table) ≡ 256) × ((v : ℕ) → getD (now table) v 0 ≤ countTo (now grey) from v) ⌝ }
-    ensures { λ _. ⌜ ((v : ℕ) → getD (now (table .exit)) v 0 + countTo (now (grey .entry)) from v ≡ getD (now (table .entry)) v 0 + countIn (now (grey .entry)) v) ⌝ }
+    ensures { λ _. ⌜ (length (now (table .exit)) ≡ 256) × ((v : ℕ) → getD (now (table .exit)) v 0 + countTo (now (grey .entry)) from v ≡ getD (now (table .entry)) v 0 + countIn (now (grey .entry)) v) ⌝ }
 {
     let mut i = from;
     while i < grey.len() {

@@ -56,7 +56,7 @@ returns c =
     let L = c .before .loop in
     let l = c .before .before .before .args .grey .now in
     let e : L .i ≡ length l = omega arith in
-    rw e at (L .inv .2)
+    (L .inv .1, rw e at (L .inv .2))
 
 pub count-rest-spec : {M : Type 1} → statement M
 count-rest-spec =

@@ -1,3 +1,8 @@
+use mathlib.Core.Path.{_≡_, _∙_}
+use lib.ListN.{length}
+use Prim.Native.Nat.{ℕ}
+use Rattle.threshold.specs.Flat.{countIn, four}
+use Rattle.threshold.proofs.CountLaws.{count-le, tally-none, tally-rest}
 use native.Mathlib.Omega.{arith}
 use borrow.Author.Needs.{needs}
 use Rattle.threshold.proofs.counts.histogram.Statement.{statement}
@@ -10,7 +15,7 @@ use Rattle.threshold.proofs.counts.merge.Reads as merge-reads
 
 -- src/counts.rt:72:5
 count-fours-requires : tie.Need-count-fours-requires
-count-fours-requires c κs = search needs
+count-fours-requires c κs = (c .before .before .before .before .before .pre, tally-none _)
 
 -- src/counts.rt:73:22
 sub-count-rest : tie.Need-sub-count-rest
@@ -18,15 +23,29 @@ sub-count-rest c = search needs
 
 -- src/counts.rt:73:5
 count-rest-requires : tie.Need-count-rest-requires
-count-rest-requires c κs = search needs
+count-rest-requires c κs =
+    let t = c .before .count-fours .ensures in
+    (omega arith, c .before .before .before .before .before .before .before .pre, t .sizes .0, λ v. omega (arith, t .counts v))
+
+-- after the rest the four tables count the whole frame
+counted : (c : tie.After-count-rest) (v : ℕ)
+    → four (c .count-rest .last .1 .1 .0) (c .before .before .count-fours .last .1 .1 .0) (c .before .before .count-fours .last .1 .1 .1 .0) (c .before .before .count-fours .last .1 .1 .1 .1 .0) v
+    ≡ countIn (c .before .before .before .before .before .before .before .before .args .grey .now) v
+counted c =
+    let f = c .before .before .count-fours in
+    tally-rest _ _ (f .last .1 .0) (f .last .1 .1 .0) (f .last .1 .1 .1 .0) (f .last .1 .1 .1 .1 .0) (c .count-rest .last .1 .1 .0) (f .ensures) (c .count-rest .ensures .1)
 
 -- src/counts.rt:74:5
 merge-requires : tie.Need-merge-requires
-merge-requires c κs = search needs
+merge-requires c κs =
+    let l = c .before .before .before .before .before .before .before .before .before .before .before .before .args .grey .now in
+    let p = c .before .before .before .before .before .before .before .before .before .before .before .before .pre in
+    let whole = counted (c .before .before .before .before) in
+    (c .before .before .before .before .count-rest .ensures .0, λ v. omega (arith, whole v, count-le l (length l) v))
 
 -- src/counts.rt:64:1
 returns : tie.Need-returns
-returns c = ?
+returns c = λ v k. c .merge .ensures v k ∙ counted (c .before .before .before .before .before) v
 
 pub histogram-spec : {M : Type 1} → statement M
 histogram-spec =
