@@ -3,3 +3,4 @@ pub mod SumLaws
 pub mod FrameLaws
 pub mod RefusalLaws
 pub mod ThresholdLaws
+pub mod ExampleLaws
