@@ -2,14 +2,13 @@
 use mathlib.Core.Path.{_≡_, refl, sym, ap, _∙_}
 use mathlib.Core.Bool.{Bool, true, false}
 use mathlib.Core.List.{List}
-use mathlib.Core.Logic.{_⊎_, inl, inr, ⊎-elim}
-use Prim.Native.Nat.{ℕ, zero, suc, _+_, _*_, _≤_, _<_}
+use Prim.Native.Nat.{ℕ, zero, suc, _+_, _≤_, _<_}
 use native.Mathlib.Omega.{arith}
 use lib.Dec.{eqb}
 use lib.ListN.{length, getD, set, replicate, length-set, length-replicate}
 use lib.Seq.{getD-set-same, getD-set-other}
 use borrow.Author.Tests.{eqb-true, eqb-false}
-use Rattle.rules.specs.Sums.{oneIf, sum}
+use Rattle.rules.specs.Sums.{oneIf}
 use Rattle.rules.proofs.SumLaws.{gate-le, sum-none, sum-more, sum-le}
 use Rattle.threshold.specs.Flat.{countTo, countIn, Bumped, four, Tally}
 
@@ -60,7 +59,7 @@ zero-at (suc n) (suc v) = zero-at n v
 pub tally-none : (l : List ℕ) → Tally l 0 (zeros 256) (zeros 256) (zeros 256) (zeros 256)
 tally-none l =
     let z : length (zeros 256) ≡ 256 = length-replicate {A = ℕ} 256 0 in
-    record { sizes = (z, z, z, z); counts = λ v. let e = zero-at 256 v in let f = count-none l v in omega arith; }
+    record { sizes = (z, z, z, z); counts = λ v. let e = zero-at 256 v in let f = count-none l v in omega arith }
 
 -- Four tables of fewer pixels than a u32 counts have room for one more of any value.
 pub tally-room : (l : List ℕ) (n : ℕ) (a b c d : List ℕ) → n < 16777216 → Tally l n a b c d → (v : ℕ)

@@ -9,12 +9,12 @@ use native.Mathlib.Numerals.{add-one}
 use native.Mathlib.Omega.{arith}
 use lib.Dec.{eqb, ltb, leb, leb·suc-suc}
 use lib.ListN.{length, getD}
-use borrow.Author.Tests.{eqb-true, eqb-false, ltb-true, ltb-false, lt-ltb, le-ltb, le-leb}
+use borrow.Author.Tests.{eqb-true, eqb-false, ltb-true, ltb-false, lt-ltb, le-ltb}
 use Rattle.rules.specs.Limits.{maxGrey}
 use Rattle.rules.specs.Sums.{oneIf, sum}
 use Rattle.rules.specs.Frames.{frameOf}
-use Rattle.rules.specs.Thresholds.{atMost, reaches, least, threshold}
-use Rattle.rules.proofs.SumLaws.{order, sum-none, sum-more, sum-ext, sum-zero, sum-all, sum-add, pixels-flat}
+use Rattle.rules.specs.Thresholds.{atMost, reaches, threshold}
+use Rattle.rules.proofs.SumLaws.{order, sum-ext, sum-zero, sum-all, sum-add, pixels-flat}
 use Rattle.rules.proofs.ThresholdLaws.{least-ext}
 use Rattle.threshold.specs.Flat.{countTo, countIn, atMostIn, thresholdIn, firstReaching}
 
@@ -36,7 +36,7 @@ counts-below l n (suc v) =
     ap (λ (s : ℕ). s + countTo l n v) (counts-below l n v)
     ∙ sum-add n (λ i. oneIf (ltb (getD l i 0) v)) (λ i. oneIf (eqb (getD l i 0) v))
     ∙ sum-ext n (λ i. oneIf (ltb (getD l i 0) v) + oneIf (eqb (getD l i 0) v)) (λ i. oneIf (ltb (getD l i 0) (suc v)))
-      (λ i k. below-more (getD l i 0) v ∙ ap (λ (j : ℕ). oneIf (ltb (getD l i 0) j)) (add-one v))
+    (λ i k. below-more (getD l i 0) v ∙ ap (λ (j : ℕ). oneIf (ltb (getD l i 0) j)) (add-one v))
 
 -- What a histogram of a list knows: the count of each grey value.
 module _ (l counts : List ℕ) (e : (v : ℕ) → v < 256 → getD counts v 0 ≡ countIn l v) where
@@ -57,7 +57,7 @@ module _ (l counts : List ℕ) (e : (v : ℕ) → v < 256 → getD counts v 0 �
       (λ v m. ap (λ (s : ℕ). leb (percentile * length l) (100 * s))
       (counts-to (v + 1) (omega arith)
       ∙ sum-ext (length l) (λ i. oneIf (ltb (getD l i 0) (v + 1))) (λ i. oneIf (leb (getD l i 0) v))
-        (λ i k. ap oneIf (ap (λ (j : ℕ). ltb (getD l i 0) j) (add-one v) ∙ leb·suc-suc (getD l i 0) v))))
+      (λ i k. ap oneIf (ap (λ (j : ℕ). ltb (getD l i 0) j) (add-one v) ∙ leb·suc-suc (getD l i 0) v))))
 
 -- the list's threshold is its frame's
 pub threshold-flat : (w h percentile : ℕ) (l : List ℕ) → length l ≡ w * h → thresholdIn percentile l ≡ threshold w h percentile (frameOf w l)

@@ -1,6 +1,5 @@
 -- `threshold::threshold` meets its contract. An accepted call's sizes are what the core requires, and the list's threshold is its frame's.
-use mathlib.Core.Path.{_≡_, refl, sym, ap, _∙_}
-use Prim.Native.Nat.{ℕ}
+use mathlib.Core.Path.{_≡_, sym, ap, _∙_}
 use native.Mathlib.Nat.{mul-le-mul}
 use native.Mathlib.Omega.{arith}
 use borrow.Author.Needs.{needs}
@@ -11,10 +10,6 @@ use Rattle.rules.proofs.RefusalLaws.{ThresholdOk, threshold-ok, thresholded-ref
 use Rattle.threshold.proofs.FlatLaws.{threshold-flat}
 use Rattle.threshold.proofs.threshold.Statement.{statement}
 use Rattle.threshold.proofs.threshold.Tie as tie
-use Rattle.threshold.proofs.threshold.Reads as reads
-use Rattle.threshold.proofs.threshold.Lts as lts
-use Rattle.refusals.proofs.threshold_refusal.Reads as threshold-refusal-reads
-use Rattle.threshold.proofs.walk.percentile_of.Reads as percentile-of-reads
 
 threshold-refusal-requires : tie.Need-threshold-refusal-requires
 threshold-refusal-requires c κs = search needs

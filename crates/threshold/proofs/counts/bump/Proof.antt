@@ -4,8 +4,6 @@ use borrow.Author.Needs.{needs}
 use Rattle.threshold.proofs.CountLaws.{bumped}
 use Rattle.threshold.proofs.counts.bump.Statement.{statement}
 use Rattle.threshold.proofs.counts.bump.Tie as tie
-use Rattle.threshold.proofs.counts.bump.Reads as reads
-use Rattle.threshold.proofs.counts.bump.Lts as lts
 
 mul-table : tie.Need-mul-table
 mul-table c = search needs

@@ -1,3 +1,4 @@
+-- `threshold::counts::count_fours` meets its contract. The loop's invariant: `i` is a multiple of four, and the four tables together count the pixels before it.
 use mathlib.Core.Path.{_≡_}
 use Prim.Native.Nat.{ℕ, _+_, _-_, _%_, _≤_, _<_}
 use lib.ListN.{length, getD}
@@ -7,9 +8,6 @@ use native.Mathlib.Omega.{arith}
 use borrow.Author.Needs.{needs}
 use Rattle.threshold.proofs.counts.count_fours.Statement.{statement}
 use Rattle.threshold.proofs.counts.count_fours.Tie as tie
-use Rattle.threshold.proofs.counts.count_fours.Reads as reads
-use Rattle.threshold.proofs.counts.count_fours.Lts as lts
-use Rattle.threshold.proofs.counts.bump.Reads as bump-reads
 
 abbrev Inv-loop : tie.InvT-loop
 Inv-loop grey a₀ b₀ c₀ d₀ n i₀ a b c d i = (i ≤ n) × (i % 4 ≡ 0) × Tally grey i a b c d
@@ -17,11 +15,9 @@ Inv-loop grey a₀ b₀ c₀ d₀ n i₀ a b c d i = (i ≤ n) × (i % 4 ≡ 0) 
 abbrev μ-loop : tie.MeasureT-loop
 μ-loop grey a₀ b₀ c₀ d₀ n i₀ a b c d i = n - i
 
--- src/counts.rt:30:13
 sub-n : tie.Need-sub-n Inv-loop μ-loop
 sub-n c = search needs
 
--- src/counts.rt:32:5
 loop-holds : tie.Need-loop-holds Inv-loop μ-loop
 loop-holds c = (omega arith, omega arith, c .before .pre .1)
 
@@ -36,61 +32,47 @@ room c = let L = c .before .loop in tally-room _ (L .i) (L .a) (L .b) (L .c) (L 
 shared-slice-read-bump : tie.Need-shared-slice-read-bump Inv-loop μ-loop
 shared-slice-read-bump c = omega (arith, whole (c .before .before))
 
--- src/counts.rt:33:9
 bump-requires : tie.Need-bump-requires Inv-loop μ-loop
 bump-requires c κs = (c .before .before .before .loop .inv .2 .sizes .0, room (c .before .before) _ .0)
 
--- src/counts.rt:34:22
 add-bump : tie.Need-add-bump Inv-loop μ-loop
 add-bump c = search needs
 
--- src/counts.rt:34:17
 shared-slice-read-bump-2 : tie.Need-shared-slice-read-bump-2 Inv-loop μ-loop
 shared-slice-read-bump-2 c = omega (arith, whole (c .before .before .before .before .before))
 
--- src/counts.rt:34:9
 bump-requires-2 : tie.Need-bump-requires-2 Inv-loop μ-loop
 bump-requires-2 c κs = (c .before .before .before .before .before .before .loop .inv .2 .sizes .1, room (c .before .before .before .before .before) _ .1)
 
--- src/counts.rt:35:22
 add-bump-2 : tie.Need-add-bump-2 Inv-loop μ-loop
 add-bump-2 c = search needs
 
--- src/counts.rt:35:17
 shared-slice-read-bump-3 : tie.Need-shared-slice-read-bump-3 Inv-loop μ-loop
 shared-slice-read-bump-3 c = omega (arith, whole (c .before .before .before .before .before .before .before .before))
 
--- src/counts.rt:35:9
 bump-requires-3 : tie.Need-bump-requires-3 Inv-loop μ-loop
 bump-requires-3 c κs = (c .before .before .before .before .before .before .before .before .before .loop .inv .2 .sizes .2, room (c .before .before .before .before .before .before .before .before) _ .2)
 
--- src/counts.rt:36:22
 add-bump-3 : tie.Need-add-bump-3 Inv-loop μ-loop
 add-bump-3 c = search needs
 
--- src/counts.rt:36:17
 shared-slice-read-bump-4 : tie.Need-shared-slice-read-bump-4 Inv-loop μ-loop
 shared-slice-read-bump-4 c = omega (arith, whole (c .before .before .before .before .before .before .before .before .before .before .before))
 
--- src/counts.rt:36:9
 bump-requires-4 : tie.Need-bump-requires-4 Inv-loop μ-loop
 bump-requires-4 c κs = (c .before .before .before .before .before .before .before .before .before .before .before .before .loop .inv .2 .sizes .3, room (c .before .before .before .before .before .before .before .before .before .before .before) _ .3)
 
--- src/counts.rt:37:9
 add-i : tie.Need-add-i Inv-loop μ-loop
 add-i c = search needs
 
--- src/counts.rt:32:5
 loop-less : tie.Need-loop-less Inv-loop μ-loop
 loop-less c = search needs
 
--- src/counts.rt:32:5
 loop-again : tie.Need-loop-again Inv-loop μ-loop
 loop-again c =
     let L = c .before .before .before .before .before .before .before .before .before .before .before .before .before .loop in
     (omega arith, omega arith, tally-more _ (L .i) (L .a) (L .b) (L .c) (L .d) _ _ _ _ (L .inv .2) (c .before .before .before .before .before .before .before .before .before .bump .ensures) (c .before .before .before .before .before .before .bump2 .ensures) (c .before .before .before .bump3 .ensures) (c .bump4 .ensures))
 
--- src/counts.rt:20:1
 returns : tie.Need-returns Inv-loop μ-loop
 returns c =
     let L = c .before .loop in

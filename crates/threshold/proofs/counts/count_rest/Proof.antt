@@ -1,5 +1,6 @@
+-- `threshold::counts::count_rest` meets its contract. The loop's invariant: the table has grown by the pixels from `from` up to `i`, said without a difference.
 use mathlib.Core.Path.{_≡_, refl, _∙_}
-use Prim.Native.Nat.{ℕ, _+_, _-_, _≤_, _<_}
+use Prim.Native.Nat.{ℕ, _+_, _-_, _≤_}
 use lib.ListN.{length, getD}
 use Rattle.threshold.specs.Flat.{countTo}
 use Rattle.threshold.proofs.CountLaws.{count-more, count-le}
@@ -7,9 +8,6 @@ use native.Mathlib.Omega.{arith}
 use borrow.Author.Needs.{needs}
 use Rattle.threshold.proofs.counts.count_rest.Statement.{statement}
 use Rattle.threshold.proofs.counts.count_rest.Tie as tie
-use Rattle.threshold.proofs.counts.count_rest.Reads as reads
-use Rattle.threshold.proofs.counts.count_rest.Lts as lts
-use Rattle.threshold.proofs.counts.bump.Reads as bump-reads
 
 abbrev Inv-loop : tie.InvT-loop
 Inv-loop grey from table₀ i₀ table i =
@@ -18,15 +16,12 @@ Inv-loop grey from table₀ i₀ table i =
 abbrev μ-loop : tie.MeasureT-loop
 μ-loop grey from table₀ i₀ table i = length grey - i
 
--- src/counts.rt:45:5
 loop-holds : tie.Need-loop-holds Inv-loop μ-loop
 loop-holds c = (c .before .pre .0, c .before .pre .2, λ v. refl)
 
--- src/counts.rt:46:21
 shared-slice-read-bump : tie.Need-shared-slice-read-bump Inv-loop μ-loop
 shared-slice-read-bump c = search needs
 
--- src/counts.rt:46:9
 bump-requires : tie.Need-bump-requires Inv-loop μ-loop
 bump-requires c κs =
     let L = c .before .before .before .loop in
@@ -34,15 +29,12 @@ bump-requires c κs =
     let v = getD (s .args .grey .now) (L .i) 0 in
     (L .inv .1, omega (arith, L .inv .2 v, s .pre .3 v, count-le (s .args .grey .now) (L .i) v))
 
--- src/counts.rt:47:9
 add-i : tie.Need-add-i Inv-loop μ-loop
 add-i c = search needs
 
--- src/counts.rt:45:5
 loop-less : tie.Need-loop-less Inv-loop μ-loop
 loop-less c = search needs
 
--- src/counts.rt:45:5
 loop-again : tie.Need-loop-again Inv-loop μ-loop
 loop-again c =
     let L = c .before .before .before .before .loop in
@@ -50,7 +42,6 @@ loop-again c =
     let e = c .bump .ensures in
     (omega arith, e .size ∙ L .inv .1, λ v. omega (arith, e .counts v, L .inv .2 v, count-more (s .args .grey .now) (L .i) v))
 
--- src/counts.rt:40:1
 returns : tie.Need-returns Inv-loop μ-loop
 returns c =
     let L = c .before .loop in

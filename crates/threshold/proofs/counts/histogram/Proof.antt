@@ -1,3 +1,4 @@
+-- `threshold::counts::histogram` meets its contract: the turns of four and the rest together count every pixel once.
 use mathlib.Core.Path.{_≡_, _∙_}
 use lib.ListN.{length}
 use Prim.Native.Nat.{ℕ}
@@ -7,21 +8,13 @@ use native.Mathlib.Omega.{arith}
 use borrow.Author.Needs.{needs}
 use Rattle.threshold.proofs.counts.histogram.Statement.{statement}
 use Rattle.threshold.proofs.counts.histogram.Tie as tie
-use Rattle.threshold.proofs.counts.histogram.Reads as reads
-use Rattle.threshold.proofs.counts.histogram.Lts as lts
-use Rattle.threshold.proofs.counts.count_fours.Reads as count-fours-reads
-use Rattle.threshold.proofs.counts.count_rest.Reads as count-rest-reads
-use Rattle.threshold.proofs.counts.merge.Reads as merge-reads
 
--- src/counts.rt:72:5
 count-fours-requires : tie.Need-count-fours-requires
 count-fours-requires c κs = (c .before .before .before .before .before .pre, tally-none _)
 
--- src/counts.rt:73:22
 sub-count-rest : tie.Need-sub-count-rest
 sub-count-rest c = search needs
 
--- src/counts.rt:73:5
 count-rest-requires : tie.Need-count-rest-requires
 count-rest-requires c κs =
     let t = c .before .count-fours .ensures in
@@ -35,7 +28,6 @@ counted c =
     let f = c .before .before .count-fours in
     tally-rest _ _ (f .last .1 .0) (f .last .1 .1 .0) (f .last .1 .1 .1 .0) (f .last .1 .1 .1 .1 .0) (c .count-rest .last .1 .1 .0) (f .ensures) (c .count-rest .ensures .1)
 
--- src/counts.rt:74:5
 merge-requires : tie.Need-merge-requires
 merge-requires c κs =
     let l = c .before .before .before .before .before .before .before .before .before .before .before .before .args .grey .now in
@@ -43,7 +35,6 @@ merge-requires c κs =
     let whole = counted (c .before .before .before .before) in
     (c .before .before .before .before .count-rest .ensures .0, λ v. omega (arith, whole v, count-le l (length l) v))
 
--- src/counts.rt:64:1
 returns : tie.Need-returns
 returns c = λ v k. c .merge .ensures v k ∙ counted (c .before .before .before .before .before) v
 

@@ -1,3 +1,5 @@
+-- `threshold::walk::first_reaching` meets its contract. The loop's invariant: `count` is the sum of the counts below `v`, and no value below `v` reaches the goal.
+-- The last value reaches it by the requires, so `v` stays a byte.
 use mathlib.Core.Path.{_≡_, sym}
 use mathlib.Core.Bool.{false}
 use Prim.Native.Nat.{ℕ, _+_, _*_, _-_, _≤_, _<_}
@@ -14,8 +16,6 @@ use native.Mathlib.Omega.{arith}
 use borrow.Author.Needs.{needs}
 use Rattle.threshold.proofs.walk.first_reaching.Statement.{statement}
 use Rattle.threshold.proofs.walk.first_reaching.Tie as tie
-use Rattle.threshold.proofs.walk.first_reaching.Reads as reads
-use Rattle.threshold.proofs.walk.first_reaching.Lts as lts
 
 abbrev Inv-loop : tie.InvT-loop
 Inv-loop counts goal count₀ v₀ count v =
@@ -24,7 +24,6 @@ Inv-loop counts goal count₀ v₀ count v =
 abbrev μ-loop : tie.MeasureT-loop
 μ-loop counts goal count₀ v₀ count v = 255 - v
 
--- src/walk.rt:17:9
 loop-holds : tie.Need-loop-holds Inv-loop μ-loop
 loop-holds c = (omega arith, sym (sum-none _), λ u l. absurd (omega arith))
 
@@ -35,23 +34,18 @@ next c = let r = running-more (λ k. getD (c .before .args .counts .now) k 0) (c
 cast-k : tie.Need-cast-k Inv-loop μ-loop
 cast-k c = search needs
 
--- src/walk.rt:19:18
 mul-count : tie.Need-mul-count Inv-loop μ-loop
 mul-count c = search needs
 
--- src/walk.rt:19:18
 element-copy-out-count : tie.Need-element-copy-out-count Inv-loop μ-loop
 element-copy-out-count c = search needs
 
--- src/walk.rt:19:18
 cast-count : tie.Need-cast-count Inv-loop μ-loop
 cast-count c = omega (arith, next (c .before))
 
--- src/walk.rt:19:9
 add-count : tie.Need-add-count Inv-loop μ-loop
 add-count c = omega (arith, next (c .before))
 
--- src/walk.rt:20:12
 mul-if1 : tie.Need-mul-if1 Inv-loop μ-loop
 mul-if1 c = omega (arith, next (c .before))
 
@@ -65,18 +59,18 @@ more c =
 add-v : tie.Need-add-v Inv-loop μ-loop
 add-v c = omega (arith, more c)
 
--- src/walk.rt:17:9
 loop-less : tie.Need-loop-less Inv-loop μ-loop
 loop-less c = omega (arith, more c)
 
--- src/walk.rt:17:9
 loop-again : tie.Need-loop-again Inv-loop μ-loop
 loop-again c =
     let L = c .before .before .loop in
     let a = c .before .before .before .args in
-    let n = next (c .before .before) in
-    (omega (arith, more c), n .0,
-    below-more _ _ (L .inv .2) (lt-leb (a .goal) (100 * sum (L .v + 1) (λ k. getD (a .counts .now) k 0)) (omega (arith, n .0))))
+    let n = next (c .before .before) in (
+      omega (arith, more c),
+      n .0,
+      below-more _ _ (L .inv .2) (lt-leb (a .goal) (100 * sum (L .v + 1) (λ k. getD (a .counts .now) k 0)) (omega (arith, n .0))),
+    )
 
 returns : tie.Need-returns Inv-loop μ-loop
 unfolding firstReaching

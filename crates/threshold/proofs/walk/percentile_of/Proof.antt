@@ -1,3 +1,4 @@
+-- `threshold::walk::percentile_of` meets its contract: the counts of a list of bytes add up to its length, and the walk over them gives the list's threshold.
 use mathlib.Core.Path.{_∙_}
 use native.Mathlib.Nat.{mul-le-mul, mul-le-mul-right}
 use native.Mathlib.Omega.{arith}
@@ -7,20 +8,13 @@ use Rattle.threshold.proofs.FlatLaws.{counts-all, walk-is}
 use borrow.Author.Needs.{needs}
 use Rattle.threshold.proofs.walk.percentile_of.Statement.{statement}
 use Rattle.threshold.proofs.walk.percentile_of.Tie as tie
-use Rattle.threshold.proofs.walk.percentile_of.Reads as reads
-use Rattle.threshold.proofs.walk.percentile_of.Lts as lts
-use Rattle.threshold.proofs.counts.histogram.Reads as histogram-reads
-use Rattle.threshold.proofs.walk.first_reaching.Reads as first-reaching-reads
 
--- src/walk.rt:33:18
 histogram-requires : tie.Need-histogram-requires
 histogram-requires c κs = search needs
 
--- src/walk.rt:34:16
 mul-goal : tie.Need-mul-goal
 mul-goal c = let p = c .before .before .pre in let m = mul-le-mul (p .3) (p .1) in omega arith
 
--- src/walk.rt:35:5
 first-reaching-requires : tie.Need-first-reaching-requires
 first-reaching-requires c κs =
     let s = c .before .before .before in
@@ -30,7 +24,6 @@ first-reaching-requires c κs =
     let m : s .args .percentile * length l ≤ 99 * length l = mul-le-mul-right (length l) (p .3) in
     (omega arith, omega arith)
 
--- src/walk.rt:29:1
 returns : tie.Need-returns
 returns c =
     let s = c .before .before .before .before in
