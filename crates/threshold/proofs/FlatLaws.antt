@@ -47,7 +47,8 @@ module _ (l counts : List ℕ) (e : (v : ℕ) → v < 256 → getD counts v 0 �
   pub counts-all : ((i : ℕ) → i < length l → getD l i 0 < 256) → sum 256 (λ k. getD counts k 0) ≡ length l
   counts-all b =
       counts-to 256 (omega arith)
-      ∙ sum-all (length l) (λ i. oneIf (ltb (getD l i 0) 256)) (λ i k. rw (lt-ltb (getD l i 0) 256 (b i k)))
+      ∙ sum-all (length l) 1 (λ i. oneIf (ltb (getD l i 0) 256)) (λ i k. rw (lt-ltb (getD l i 0) 256 (b i k)))
+      ∙ omega arith
 
   -- the walk over the counts gives the list's threshold
   pub walk-is : (percentile : ℕ) → firstReaching (percentile * length l) counts ≡ thresholdIn percentile l
