@@ -10,7 +10,8 @@ use lib.Seq.{getD-set-same, getD-set-other}
 use borrow.Author.Tests.{eqb-true, eqb-false}
 use Rattle.rules.specs.Sums.{oneIf}
 use Rattle.rules.proofs.SumLaws.{gate-le, sum-none, sum-more, sum-le}
-use Rattle.threshold.specs.Flat.{countTo, countIn, Bumped, four, Tally}
+use Rattle.threshold.specs.Flat.{maxPixels, countTo, countIn}
+use Rattle.threshold.specs.Tables.{Room, Bumped, four, Tally}
 
 -- A table after one more of the value k.
 pub bumped : (t : List ℕ) (k : ℕ) → k < length t → Bumped k t (set t k (getD t k 0 + 1))
@@ -36,16 +37,8 @@ pub count-le : (l : List ℕ) (n v : ℕ) → countTo l n v ≤ n
 unfolding countTo
 count-le l n v = let a = sum-le n 1 (λ i. oneIf (eqb (getD l i 0) v)) (λ i k. gate-le (eqb (getD l i 0) v) 1) in omega arith
 
-count-four : (l : List ℕ) (n v : ℕ) → countTo l (n + 4) v
-    ≡ countTo l n v + oneIf (eqb (getD l n 0) v) + oneIf (eqb (getD l (n + 1) 0) v) + oneIf (eqb (getD l (n + 2) 0) v) + oneIf (eqb (getD l (n + 3) 0) v)
-count-four l n v =
-    ap (λ (k : ℕ). countTo l k v) (let e : n + 4 ≡ n + 3 + 1 = omega arith in e)
-    ∙ count-more l (n + 3) v
-    ∙ ap (λ (k : ℕ). countTo l k v + oneIf (eqb (getD l (n + 3) 0) v)) (let e : n + 3 ≡ n + 2 + 1 = omega arith in e)
-    ∙ ap (λ (k : ℕ). k + oneIf (eqb (getD l (n + 3) 0) v)) (count-more l (n + 2) v)
-    ∙ ap (λ (k : ℕ). countTo l k v + oneIf (eqb (getD l (n + 2) 0) v) + oneIf (eqb (getD l (n + 3) 0) v)) (let e : n + 2 ≡ n + 1 + 1 = omega arith in e)
-    ∙ ap (λ (k : ℕ). k + oneIf (eqb (getD l (n + 2) 0) v) + oneIf (eqb (getD l (n + 3) 0) v)) (count-more l (n + 1) v)
-    ∙ ap (λ (k : ℕ). k + oneIf (eqb (getD l (n + 1) 0) v) + oneIf (eqb (getD l (n + 2) 0) v) + oneIf (eqb (getD l (n + 3) 0) v)) (count-more l n v)
+count-next : (l : List ℕ) (n m v : ℕ) → m ≡ n + 1 → countTo l m v ≡ countTo l n v + oneIf (eqb (getD l n 0) v)
+count-next l n m v e = ap (λ (k : ℕ). countTo l k v) e ∙ count-more l n v
 
 abbrev pub zeros : ℕ → List ℕ
 zeros n = replicate n 0
@@ -61,9 +54,9 @@ tally-none l =
     let z : length (zeros 256) ≡ 256 = length-replicate {A = ℕ} 256 0 in
     record { sizes = (z, z, z, z); counts = λ v. let e = zero-at 256 v in let f = count-none l v in omega arith }
 
--- Four tables of fewer pixels than a u32 counts have room for one more of any value.
-pub tally-room : (l : List ℕ) (n : ℕ) (a b c d : List ℕ) → n < 16777216 → Tally l n a b c d → (v : ℕ)
-    → (getD a v 0 < 16777216) × (getD b v 0 < 16777216) × (getD c v 0 < 16777216) × (getD d v 0 < 16777216)
+-- Four tables of fewer pixels than the largest frame has have room for one more of any value.
+pub tally-room : (l : List ℕ) (n : ℕ) (a b c d : List ℕ) → n < maxPixels → Tally l n a b c d
+    → (v : ℕ) → Room a v × Room b v × Room c v × Room d v
 tally-room l n a b c d m t v = let e = t .counts v in let f = count-le l n v in omega arith
 
 -- a pixel into each table
@@ -73,17 +66,15 @@ pub tally-more : (l : List ℕ) (n : ℕ) (a b c d a′ b′ c′ d′ : List �
 tally-more l n a b c d a′ b′ c′ d′ t p q r s = record {
   sizes = omega arith;
   counts = λ v.
-      let e = t .counts v in
-      let p = p .counts v in
-      let q = q .counts v in
-      let r = r .counts v in
-      let s = s .counts v in
-      let f = count-four l n v in
-      omega arith;
+      let k0 = count-more l n v in
+      let k1 = count-next l (n + 1) (n + 2) v (omega arith) in
+      let k2 = count-next l (n + 2) (n + 3) v (omega arith) in
+      let k3 = count-next l (n + 3) (n + 4) v (omega arith) in
+      omega (arith, t .counts v, p .counts v, q .counts v, r .counts v, s .counts v);
 }
 
 -- the first table with the rest of the list: what the four then count
 pub tally-rest : (l : List ℕ) (n : ℕ) (a b c d a′ : List ℕ) → Tally l n a b c d
     → ((v : ℕ) → getD a′ v 0 + countTo l n v ≡ getD a v 0 + countIn l v)
     → (v : ℕ) → four a′ b c d v ≡ countIn l v
-tally-rest l n a b c d a′ t r v = let e = t .counts v in let f = r v in omega arith
+tally-rest l n a b c d a′ t r v = omega (arith, t .counts v, r v)

@@ -1,7 +1,6 @@
 -- The threshold by the counts of the values, place by place and pixel by pixel is the same.
 use mathlib.Core.Path.{_≡_, refl, sym, ap, ap₂, _∙_}
 use mathlib.Core.Bool.{Bool, true, false}
-use mathlib.Core.Logic.{⊎-elim}
 use mathlib.Core.List.{List}
 use Prim.Native.Nat.{ℕ, zero, suc, _+_, _*_, _≤_, _<_}
 use native.Mathlib.Nat.{mul-comm}
@@ -14,19 +13,19 @@ use Rattle.rules.specs.Limits.{maxGrey}
 use Rattle.rules.specs.Sums.{oneIf, sum}
 use Rattle.rules.specs.Frames.{frameOf}
 use Rattle.rules.specs.Thresholds.{atMost, reaches, threshold}
-use Rattle.rules.proofs.SumLaws.{order, sum-ext, sum-zero, sum-all, sum-add, pixels-flat}
+use Rattle.rules.proofs.SumLaws.{sum-ext, sum-zero, sum-all, sum-add, pixels-flat}
 use Rattle.rules.proofs.ThresholdLaws.{least-ext}
 use Rattle.threshold.specs.Flat.{countTo, countIn, atMostIn, thresholdIn, firstReaching}
 
 -- a value below v + 1 is below v or is v
-below-more : (x v : ℕ) → oneIf (ltb x v) + oneIf (eqb x v) ≡ oneIf (ltb x (v + 1))
-below-more x v = split (eqb x v) refl (ltb x v) refl
+below-next : (x v : ℕ) → oneIf (ltb x v) + oneIf (eqb x v) ≡ oneIf (ltb x (v + 1))
+below-next x v = split (eqb x v) refl (ltb x v) refl
   where
     split : (e : Bool) → eqb x v ≡ e → (l : Bool) → ltb x v ≡ l → oneIf l + oneIf e ≡ oneIf (ltb x (v + 1))
     split true p true q = absurd (let a = eqb-true x v p in let b = ltb-true x v q in omega arith)
     split true p false q = let a = eqb-true x v p in rw (lt-ltb x (v + 1) (omega arith))
     split false p true q = let b = ltb-true x v q in rw (lt-ltb x (v + 1) (omega arith))
-    split false p false q = let a = eqb-false x v p in let b = ltb-false x v q in rw (le-ltb x (v + 1) (let n : v < x = ⊎-elim (λ (k : v < x). k) (λ (k : x ≤ v). absurd (a (omega arith))) (order v x) in omega arith))
+    split false p false q = let a = eqb-false x v p in let b = ltb-false x v q in rw (le-ltb x (v + 1) (omega arith))
 
 -- the counts of the values below v, added, count the places that hold a value below v
 counts-below : (l : List ℕ) (n v : ℕ) → sum v (λ k. countTo l n k) ≡ sum n (λ i. oneIf (ltb (getD l i 0) v))
@@ -36,7 +35,7 @@ counts-below l n (suc v) =
     ap (λ (s : ℕ). s + countTo l n v) (counts-below l n v)
     ∙ sum-add n (λ i. oneIf (ltb (getD l i 0) v)) (λ i. oneIf (eqb (getD l i 0) v))
     ∙ sum-ext n (λ i. oneIf (ltb (getD l i 0) v) + oneIf (eqb (getD l i 0) v)) (λ i. oneIf (ltb (getD l i 0) (suc v)))
-    (λ i k. below-more (getD l i 0) v ∙ ap (λ (j : ℕ). oneIf (ltb (getD l i 0) j)) (add-one v))
+    (λ i k. below-next (getD l i 0) v ∙ ap (λ (j : ℕ). oneIf (ltb (getD l i 0) j)) (add-one v))
 
 -- What a histogram of a list knows: the count of each grey value.
 module _ (l counts : List ℕ) (e : (v : ℕ) → v < 256 → getD counts v 0 ≡ countIn l v) where

@@ -5,9 +5,11 @@ use Prim.Native.Nat.{ℕ, _+_, _*_, _≤_, _<_}
 use native.Mathlib.Omega.{arith}
 use Rattle.rules.specs.Sums.{sum}
 use Rattle.rules.proofs.SumLaws.{order, sum-more, sum-part}
+use Rattle.threshold.specs.Flat.{maxPixels}
 
 -- the next running count, and its bound
-pub running-more : (f : ℕ → ℕ) (v : ℕ) → v ≤ 255 → sum 256 f ≤ 16777216 → (sum v f + f v ≡ sum (v + 1) f) × (sum v f + f v ≤ 16777216)
+pub running-more : (f : ℕ → ℕ) (v : ℕ) → v ≤ 255 → sum 256 f ≤ maxPixels
+    → (sum v f + f v ≡ sum (v + 1) f) × (sum v f + f v ≤ maxPixels)
 running-more f v l b = let a = sum-more v f in let c = sum-part (v + 1) 256 f (omega arith) in omega arith
 
 -- a value that does not reach the goal is not the last

@@ -3,11 +3,12 @@
 ghost use mathlib.Core.Path.{_≡_};
 ghost use Prim.Native.Nat.{ℕ, _+_, _-_, _%_, _<_, _≤_};
 ghost use lib.ListN.{length, getD};
-ghost use Rattle.threshold.specs.Flat.{countTo, countIn, Bumped, four, Tally};
+ghost use Rattle.threshold.specs.Flat.{maxPixels, countTo, countIn};
+ghost use Rattle.threshold.specs.Tables.{Room, Bumped, four, Tally};
 
 // One more of a value.
 fn bump(table: &mut [u32; 256], value: u8)
-    requires { ⌜ (length (now table) ≡ 256) × (getD (now table) value 0 < 16777216) ⌝ }
+    requires { ⌜ Room (now table) value ⌝ }
     ensures { λ _. ⌜ Bumped value (now (table .entry)) (now (table .exit)) ⌝ }
 {
     let k = value as usize;
@@ -22,7 +23,7 @@ fn count_fours(
     c: &mut [u32; 256],
     d: &mut [u32; 256],
 )
-    requires { ⌜ (length (now grey) ≤ 16777216) × (Tally (now grey) 0 (now a) (now b) (now c) (now d)) ⌝ }
+    requires { ⌜ (length (now grey) ≤ maxPixels) × (Tally (now grey) 0 (now a) (now b) (now c) (now d)) ⌝ }
     ensures { λ _. ⌜ Tally (now (grey .entry)) (length (now (grey .entry)) - length (now (grey .entry)) % 4) (now (a .exit)) (now (b .exit)) (now (c .exit)) (now (d .exit)) ⌝ }
 {
     let n = grey.len() - grey.len() % 4;
@@ -38,7 +39,7 @@ fn count_fours(
 
 // The pixels from a place on, which the turns of four leave over, into one table.
 fn count_rest(grey: &[u8], from: usize, table: &mut [u32; 256])
-    requires { ⌜ (from ≤ length (now grey)) × (length (now grey) ≤ 16777216) × (length (now table) ≡ 256) × ((v : ℕ) → getD (now table) v 0 ≤ countTo (now grey) from v) ⌝ }
+    requires { ⌜ (from ≤ length (now grey)) × (length (now grey) ≤ maxPixels) × (length (now table) ≡ 256) × ((v : ℕ) → getD (now table) v 0 ≤ countTo (now grey) from v) ⌝ }
     ensures { λ _. ⌜ (length (now (table .exit)) ≡ 256) × ((v : ℕ) → getD (now (table .exit)) v 0 + countTo (now (grey .entry)) from v ≡ getD (now (table .entry)) v 0 + countIn (now (grey .entry)) v) ⌝ }
 {
     let mut i = from;
@@ -50,7 +51,7 @@ fn count_rest(grey: &[u8], from: usize, table: &mut [u32; 256])
 
 // The other three tables added to the first.
 fn merge(a: &mut [u32; 256], b: &[u32; 256], c: &[u32; 256], d: &[u32; 256])
-    requires { ⌜ (length (now a) ≡ 256) × ((v : ℕ) → four (now a) (now b) (now c) (now d) v ≤ 16777216) ⌝ }
+    requires { ⌜ (length (now a) ≡ 256) × ((v : ℕ) → four (now a) (now b) (now c) (now d) v ≤ maxPixels) ⌝ }
     ensures { λ _. ⌜ ((v : ℕ) → v < 256 → getD (now (a .exit)) v 0 ≡ four (now (a .entry)) (now (b .entry)) (now (c .entry)) (now (d .entry)) v) ⌝ }
 {
     let mut v: usize = 0;
@@ -62,7 +63,7 @@ fn merge(a: &mut [u32; 256], b: &[u32; 256], c: &[u32; 256], d: &[u32; 256])
 
 // How often each of the 256 grey values stands in a frame.
 pub fn histogram(grey: &[u8]) -> [u32; 256]
-    requires { ⌜ length (now grey) ≤ 16777216 ⌝ }
+    requires { ⌜ length (now grey) ≤ maxPixels ⌝ }
     ensures { λ r. ⌜ ((v : ℕ) → v < 256 → getD r v 0 ≡ countIn (now (grey .entry)) v) ⌝ }
 {
     let mut a = [0u32; 256];

@@ -2,7 +2,8 @@
 use mathlib.Core.Path.{_≡_, _∙_}
 use lib.ListN.{length}
 use Prim.Native.Nat.{ℕ}
-use Rattle.threshold.specs.Flat.{countIn, four}
+use Rattle.threshold.specs.Flat.{countIn}
+use Rattle.threshold.specs.Tables.{four}
 use Rattle.threshold.proofs.CountLaws.{count-le, tally-none, tally-rest}
 use native.Mathlib.Omega.{arith}
 use borrow.Author.Needs.{needs}
@@ -22,18 +23,24 @@ count-rest-requires c κs =
 
 -- after the rest the four tables count the whole frame
 counted : (c : tie.After-count-rest) (v : ℕ)
-    → four (c .count-rest .last .1 .1 .0) (c .before .before .count-fours .last .1 .1 .0) (c .before .before .count-fours .last .1 .1 .1 .0) (c .before .before .count-fours .last .1 .1 .1 .1 .0) v
+    → four (c .count-rest .last .1 .1 .0)
+    (c .before .before .count-fours .last .1 .1 .0)
+    (c .before .before .count-fours .last .1 .1 .1 .0)
+    (c .before .before .count-fours .last .1 .1 .1 .1 .0)
+    v
     ≡ countIn (c .before .before .before .before .before .before .before .before .args .grey .now) v
 counted c =
     let f = c .before .before .count-fours in
-    tally-rest _ _ (f .last .1 .0) (f .last .1 .1 .0) (f .last .1 .1 .1 .0) (f .last .1 .1 .1 .1 .0) (c .count-rest .last .1 .1 .0) (f .ensures) (c .count-rest .ensures .1)
+    let t = f .last .1 in
+    tally-rest _ _ (t .0) (t .1 .0) (t .1 .1 .0) (t .1 .1 .1 .0) (c .count-rest .last .1 .1 .0) (f .ensures) (c .count-rest .ensures .1)
 
 merge-requires : tie.Need-merge-requires
 merge-requires c κs =
-    let l = c .before .before .before .before .before .before .before .before .before .before .before .before .args .grey .now in
-    let p = c .before .before .before .before .before .before .before .before .before .before .before .before .pre in
-    let whole = counted (c .before .before .before .before) in
-    (c .before .before .before .before .count-rest .ensures .0, λ v. omega (arith, whole v, count-le l (length l) v))
+    let r = c .before .before .before .before in
+    let s = r .before .before .before .before .before .before .before .before in
+    let l = s .args .grey .now in
+    let p = s .pre in
+    (r .count-rest .ensures .0, λ v. omega (arith, counted r v, count-le l (length l) v))
 
 returns : tie.Need-returns
 returns c = λ v k. c .merge .ensures v k ∙ counted (c .before .before .before .before .before) v

@@ -4,7 +4,8 @@ use Prim.Native.Nat.{ℕ, _-_, _≤_}
 use native.Mathlib.Nat.{zero-add}
 use lib.ListN.{getD}
 use Rattle.rules.proofs.FrameLaws.{RowAt, row-none, row-more}
-use Rattle.threshold.specs.Flat.{four}
+use Rattle.threshold.specs.Flat.{maxPixels}
+use Rattle.threshold.specs.Tables.{four}
 use native.Mathlib.Omega.{arith}
 use borrow.Author.Needs.{needs}
 use Rattle.threshold.proofs.counts.merge.Statement.{statement}
@@ -27,7 +28,7 @@ sum-is c = let h = c .loop .inv .1 .over (c .loop .v) (omega arith) in omega ari
 
 -- and the sum fits
 fits : (c : tie.At-loop Inv-loop μ-loop)
-    → four (c .loop .a) (c .before .args .b .now) (c .before .args .c .now) (c .before .args .d .now) (c .loop .v) ≤ 16777216
+    → four (c .loop .a) (c .before .args .b .now) (c .before .args .c .now) (c .before .args .d .now) (c .loop .v) ≤ maxPixels
 fits c = omega (arith, sum-is c, c .before .pre .1 (c .loop .v))
 
 mul-a : tie.Need-mul-a Inv-loop μ-loop

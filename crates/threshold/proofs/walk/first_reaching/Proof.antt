@@ -10,7 +10,7 @@ use borrow.Author.Tests.{le-leb, lt-leb}
 use Rattle.rules.specs.Sums.{sum}
 use Rattle.rules.proofs.SumLaws.{sum-none}
 use Rattle.rules.proofs.ThresholdLaws.{least-is}
-use Rattle.threshold.specs.Flat.{firstReaching}
+use Rattle.threshold.specs.Flat.{maxPixels, firstReaching}
 use Rattle.threshold.proofs.WalkLaws.{running-more, not-last}
 use native.Mathlib.Omega.{arith}
 use borrow.Author.Needs.{needs}
@@ -28,8 +28,12 @@ loop-holds : tie.Need-loop-holds Inv-loop μ-loop
 loop-holds c = (omega arith, sym (sum-none _), λ u l. absurd (omega arith))
 
 -- the running count with the count of v
-next : (c : tie.At-loop Inv-loop μ-loop) → (c .loop .count + getD (c .before .args .counts .now) (c .loop .v) 0 ≡ sum (c .loop .v + 1) (λ k. getD (c .before .args .counts .now) k 0)) × (c .loop .count + getD (c .before .args .counts .now) (c .loop .v) 0 ≤ 16777216)
-next c = let r = running-more (λ k. getD (c .before .args .counts .now) k 0) (c .loop .v) (c .loop .inv .0) (c .before .pre .0) in rw (c .loop .inv .1) r
+next : (c : tie.At-loop Inv-loop μ-loop)
+    → (c .loop .count + getD (c .before .args .counts .now) (c .loop .v) 0 ≡ sum (c .loop .v + 1) (λ k. getD (c .before .args .counts .now) k 0))
+    × (c .loop .count + getD (c .before .args .counts .now) (c .loop .v) 0 ≤ maxPixels)
+next c =
+    rw (c .loop .inv .1)
+    (running-more (λ k. getD (c .before .args .counts .now) k 0) (c .loop .v) (c .loop .inv .0) (c .before .pre .0))
 
 cast-k : tie.Need-cast-k Inv-loop μ-loop
 cast-k c = search needs
