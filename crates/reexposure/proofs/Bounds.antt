@@ -15,7 +15,8 @@ use borrow.Author.Tests.{leb-true, leb-false, lt-ltb, le-ltb}
 use Rattle.rules.specs.Frames.{Frame}
 use Rattle.rules.specs.Greys.{halved}
 use Rattle.rules.specs.Planes.{distance}
-use Rattle.rules.specs.Levels.{Offset, still, added, Exclusion, wardOrder, firstLeast, chosen, Aligned, level, countAt, pair}
+use Rattle.rules.specs.declared.Offset.{Offset}
+use Rattle.rules.specs.Levels.{still, added, Exclusion, wardOrder, firstLeast, chosen, Aligned, level, countAt, pair}
 use Rattle.rules.specs.Series.{sumFrom, opposite, frameOffset, offsetList}
 use Rattle.rules.proofs.SumLaws.{order}
 

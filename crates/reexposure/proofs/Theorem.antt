@@ -8,7 +8,8 @@ use lib.ListN.{getD, drop}
 use lib.Seq.{getD-drop}
 use Rattle.rules.specs.Greys.{grey, greyFrame}
 use Rattle.rules.specs.Planes.{distance}
-use Rattle.rules.specs.Levels.{Offset, Exclusion, wardOrder, byTolerance, pair}
+use Rattle.rules.specs.declared.Offset.{Offset}
+use Rattle.rules.specs.Levels.{Exclusion, wardOrder, byTolerance, pair}
 use Rattle.rules.specs.Series.{Settings, greyOf, pairOf, frameOffset, offsetList, Answer, answerOf, answerBy, seriesAnswer}
 use Rattle.reexposure.specs.Reexposure.{Reexposed, Bytes, Sound, Bounded, Demand3}
 use Rattle.reexposure.proofs.Links.{Link, Linked, Fair, fair-zero}
