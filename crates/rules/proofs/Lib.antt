@@ -5,4 +5,5 @@ pub mod RefusalLaws
 pub mod GreyLaws
 pub mod ThresholdLaws
 pub mod DifferenceLaws
+pub mod BoundLaws
 pub mod ExampleLaws
