@@ -11,8 +11,42 @@ use rules::Written;
 const SIDE: usize = 4;
 
 fn main() {
-    let first = [10u8, 10, 90, 90, 10, 10, 90, 90, 10, 10, 90, 90, 10, 20, 90, 90];
-    let second = [90u8, 10, 10, 90, 90, 10, 10, 90, 90, 10, 10, 90, 90, 10, 20, 90];
+    let first = [
+        10u8,
+        10,
+        90,
+        90,
+        10,
+        10,
+        90,
+        90,
+        10,
+        10,
+        90,
+        90,
+        10,
+        20,
+        90,
+        90,
+    ];
+    let second = [
+        90u8,
+        10,
+        10,
+        90,
+        90,
+        10,
+        10,
+        90,
+        90,
+        10,
+        10,
+        90,
+        90,
+        10,
+        20,
+        90,
+    ];
     let mut threshold1 = [0u64; 4];
     let mut exclusion1 = [0u64; 4];
     let mut threshold2 = [0u64; 4];
@@ -117,15 +151,37 @@ fn show_row(word: u64) {
     say(b"\n");
 }
 
-fn show_counts(dx: i32, threshold1: &[u64; 4], exclusion1: &[u64; 4], threshold2: &[u64; 4], exclusion2: &[u64; 4]) {
+fn show_counts(
+    dx: i32,
+    threshold1: &[u64; 4],
+    exclusion1: &[u64; 4],
+    threshold2: &[u64; 4],
+    exclusion2: &[u64; 4],
+) {
     show_count(dx, -1, threshold1, exclusion1, threshold2, exclusion2);
     show_count(dx, 0, threshold1, exclusion1, threshold2, exclusion2);
     show_count(dx, 1, threshold1, exclusion1, threshold2, exclusion2);
     say(b"\n");
 }
 
-fn show_count(dx: i32, dy: i32, threshold1: &[u64; 4], exclusion1: &[u64; 4], threshold2: &[u64; 4], exclusion2: &[u64; 4]) {
-    let counted = count::difference(SIDE, SIDE, dx, dy, threshold1, exclusion1, threshold2, exclusion2);
+fn show_count(
+    dx: i32,
+    dy: i32,
+    threshold1: &[u64; 4],
+    exclusion1: &[u64; 4],
+    threshold2: &[u64; 4],
+    exclusion2: &[u64; 4],
+) {
+    let counted = count::difference(
+        SIDE,
+        SIDE,
+        dx,
+        dy,
+        threshold1,
+        exclusion1,
+        threshold2,
+        exclusion2,
+    );
     match counted {
         Counted::Count(n) => say_number(n as u64),
         Counted::Refused(n) => refused(n),

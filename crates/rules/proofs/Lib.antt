@@ -6,4 +6,6 @@ pub mod GreyLaws
 pub mod ThresholdLaws
 pub mod DifferenceLaws
 pub mod BoundLaws
+pub mod LevelLaws
+pub mod SignedLaws
 pub mod ExampleLaws
