@@ -43,6 +43,14 @@ pub row-words-over : (w k : ℕ) → k * 64 < w → k < rowWords w
 unfolding rowWords
 row-words-over w k l = omega arith
 
+pub row-words-under : (w k : ℕ) → k < rowWords w → k * 64 < w
+unfolding rowWords
+row-words-under w k l = omega arith
+
+pub row-words-max : (w : ℕ) → w ≤ 4096 → rowWords w ≤ 64
+unfolding rowWords
+row-words-max w l = omega arith
+
 pub row-words-all : (w : ℕ) → w ≤ rowWords w * 64
 unfolding rowWords
 row-words-all w = omega arith
