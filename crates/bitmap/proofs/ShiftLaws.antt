@@ -16,11 +16,11 @@ use Rattle.rules.specs.Frames.{Frame, writtenOver}
 use Rattle.rules.specs.Planes.{within, shifted}
 use Rattle.rules.specs.Bitmaps.{bit, bitAt, rowWords, word, wordOf, packed}
 use Rattle.rules.proofs.SumLaws.{order, sum-zero}
-use Rattle.rules.proofs.FrameLaws.{FrameAt, frame-written}
+use Rattle.rules.proofs.FrameLaws.{RowAt, FrameAt, frame-written}
 use Rattle.words.specs.Rows.{rowBit, back, WordOf, bias, biasWords, biasOf}
 use Rattle.words.proofs.BitLaws.{word-is}
 use Rattle.words.proofs.MoveLaws.{gate-lt, gate-ge, back-at, back-under, bitAt-row, within-before, within-at, within-past, moved-by}
-use Rattle.bitmap.specs.Moves.{movedWord, blank, movedRows}
+use Rattle.bitmap.specs.Moves.{movedWord, blank, movedRow, movedRows}
 
 -- ---- one row
 
@@ -44,21 +44,26 @@ moved-kept src from w q r k v u b l s t =
 
 -- ---- all rows
 
+pub row-same : (to : ℕ) (f g : ℕ → ℕ) (before : List ℕ) (n : ℕ) (after : List ℕ) → ((k : ℕ) → f k ≡ g k) → RowAt to f before n after → RowAt to g before n after
+row-same to f g before n after e a = subst (λ (p : ℕ → ℕ). RowAt to p before n after) (λ i k. e k i) a
+
 -- the three cases of a row's source
-module _ (src : List ℕ) (w h q r e k y : ℕ) where
-  pub rows-before : bias + y < e → blank k ≡ movedRows src w h q r e k y
-  unfolding movedRows
-  rows-before l = sym (back-under (λ z. gate (ltb z h) (movedWord src (z * rowWords w) w q r k)) e (bias + y) l)
+module _ (src : List ℕ) (w h q r e y : ℕ) where
+  pub row-before : bias + y < e → (k : ℕ) → blank k ≡ movedRow src w h q r e y k
+  unfolding movedRow
+  row-before l k = sym (back-under (λ z. gate (ltb z h) (movedWord src (z * rowWords w) w q r k)) e (bias + y) l)
 
-  rows-row : e ≤ bias + y → movedRows src w h q r e k y ≡ gate (ltb (bias + y - e) h) (movedWord src ((bias + y - e) * rowWords w) w q r k)
-  unfolding movedRows
-  rows-row l = back-at (λ z. gate (ltb z h) (movedWord src (z * rowWords w) w q r k)) e (bias + y - e) (bias + y) (omega arith)
+  row-back : e ≤ bias + y → (k : ℕ) → movedRow src w h q r e y k ≡ gate (ltb (bias + y - e) h) (movedWord src ((bias + y - e) * rowWords w) w q r k)
+  unfolding movedRow
+  row-back l k = back-at (λ z. gate (ltb z h) (movedWord src (z * rowWords w) w q r k)) e (bias + y - e) (bias + y) (omega arith)
 
-  pub rows-at : e ≤ bias + y → bias + y - e < h → movedWord src ((bias + y - e) * rowWords w) w q r k ≡ movedRows src w h q r e k y
-  rows-at l m = sym (rows-row l ∙ gate-lt (bias + y - e) h (movedWord src ((bias + y - e) * rowWords w) w q r k) m)
+  pub row-inside : (n : ℕ) → n ≡ rowWords w → e ≤ bias + y → bias + y - e < h → (k : ℕ) → movedWord src ((bias + y - e) * n) w q r k ≡ movedRow src w h q r e y k
+  row-inside n en l m k =
+      ap (λ (j : ℕ). movedWord src ((bias + y - e) * j) w q r k) en
+      ∙ sym (row-back l k ∙ gate-lt (bias + y - e) h (movedWord src ((bias + y - e) * rowWords w) w q r k) m)
 
-  pub rows-past : e ≤ bias + y → h ≤ bias + y - e → blank k ≡ movedRows src w h q r e k y
-  rows-past l m = sym (rows-row l ∙ gate-ge (bias + y - e) h (movedWord src ((bias + y - e) * rowWords w) w q r k) m)
+  pub row-past : e ≤ bias + y → h ≤ bias + y - e → (k : ℕ) → blank k ≡ movedRow src w h q r e y k
+  row-past l m k = sym (row-back l k ∙ gate-ge (bias + y - e) h (movedWord src ((bias + y - e) * rowWords w) w q r k) m)
 
 -- ---- against document 01's shift
 
@@ -118,17 +123,17 @@ module _ (src : List ℕ) (w h : ℕ) (dx dy : ℤ) (bx : SFits w32 dx) (by : SF
     where
       before : bias + y < biasOf dy → movedRows src w h (biasOf dx / 64) (biasOf dx % 64) (biasOf dy) k y ≡ wordOf w (shifted w h dx dy (bitAt w h src)) k y
       before l =
-          sym (rows-before src w h (biasOf dx / 64) (biasOf dx % 64) (biasOf dy) k y l)
+          sym (row-before src w h (biasOf dx / 64) (biasOf dx % 64) (biasOf dy) y l k)
           ∙ sym (shifted-none y (λ f. within-before h y dy f by l) k)
 
       inside : biasOf dy ≤ bias + y → bias + y - biasOf dy < h
           → movedRows src w h (biasOf dx / 64) (biasOf dx % 64) (biasOf dy) k y ≡ wordOf w (shifted w h dx dy (bitAt w h src)) k y
-      inside l m = sym (rows-at src w h (biasOf dx / 64) (biasOf dx % 64) (biasOf dy) k y l m) ∙ word-at k y l m
+      inside l m = sym (row-inside src w h (biasOf dx / 64) (biasOf dx % 64) (biasOf dy) y (rowWords w) refl l m k) ∙ word-at k y l m
 
       past : biasOf dy ≤ bias + y → h ≤ bias + y - biasOf dy
           → movedRows src w h (biasOf dx / 64) (biasOf dx % 64) (biasOf dy) k y ≡ wordOf w (shifted w h dx dy (bitAt w h src)) k y
       past l m =
-          sym (rows-past src w h (biasOf dx / 64) (biasOf dx % 64) (biasOf dy) k y l m)
+          sym (row-past src w h (biasOf dx / 64) (biasOf dx % 64) (biasOf dy) y l m k)
           ∙ sym (shifted-none y (λ f. within-past h y dy f by l m) k)
 
   -- all rows written from the biased moves are the shifted bitmap

@@ -18,9 +18,13 @@ movedWord src from w q r k =
 abbrev pub blank : ℕ → ℕ
 blank k = 0
 
--- word k of row y: of the row e above it, counted from the bias, if there is one
-unfoldable pub movedRows : List ℕ → ℕ → ℕ → ℕ → ℕ → ℕ → Frame
-movedRows src w h q r e k y = back (λ z. gate (ltb z h) (movedWord src (z * rowWords w) w q r k)) e (bias + y)
+-- row y: the row e above it, counted from the bias, if there is one
+unfoldable pub movedRow : List ℕ → ℕ → ℕ → ℕ → ℕ → ℕ → ℕ → ℕ → ℕ
+movedRow src w h q r e y k = back (λ z. gate (ltb z h) (movedWord src (z * rowWords w) w q r k)) e (bias + y)
+
+-- all rows, word k of row y
+abbrev pub movedRows : List ℕ → ℕ → ℕ → ℕ → ℕ → ℕ → Frame
+movedRows src w h q r e k y = movedRow src w h q r e y k
 
 -- what the rows' functions may assume of sizes and lengths; n is the words of a row
 pub record Sized (w h n src out : ℕ) : Type 0 where

@@ -10,7 +10,7 @@ ghost use Rattle.rules.specs.Planes.{shifted};
 ghost use Rattle.rules.specs.Bitmaps.{rowWords, bitAt, packed};
 ghost use Rattle.rules.proofs.FrameLaws.{RowAt, FrameAt};
 ghost use Rattle.rules.proofs.RefusalLaws.{ShiftOk};
-ghost use Rattle.bitmap.specs.Moves.{movedWord, blank, movedRows, Sized};
+ghost use Rattle.bitmap.specs.Moves.{movedWord, blank, movedRow, movedRows, Sized};
 use refusals::row_words;
 use words::biased;
 use words::keep_low;
@@ -76,7 +76,7 @@ pub fn place_row(
     requires sized { ⌜ Sized w h n (length (now src)) (length (now dst)) ⌝ }
     requires inside { ⌜ y < h ⌝ }
     requires rest { ⌜ r < wordBits ⌝ }
-    ensures { λ _. ⌜ RowAt (y * n) (λ k. movedRows (now (src .entry)) w h q r down k y) (now (dst .entry)) n (now (dst .exit)) ⌝ }
+    ensures { λ _. ⌜ RowAt (y * n) (movedRow (now (src .entry)) w h q r down y) (now (dst .entry)) n (now (dst .exit)) ⌝ }
 {
     let to = y * n;
     let place = BIAS + y;

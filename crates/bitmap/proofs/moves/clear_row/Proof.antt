@@ -1,13 +1,13 @@
+-- `bitmap::moves::clear_row` meets its contract. Invariant: the first k words at `to` are 0, and nothing else has changed.
 use native.Mathlib.Omega.{arith}
 use borrow.Author.Needs.{needs}
+use mathlib.Core.Path.{_≡_, refl}
 use Prim.Native.Nat.{_≤_, _-_}
 use denote.Ref.{now}
 use Rattle.rules.proofs.FrameLaws.{RowAt, row-none, row-more}
 use Rattle.bitmap.specs.Moves.{blank}
 use Rattle.bitmap.proofs.moves.clear_row.Statement.{statement}
 use Rattle.bitmap.proofs.moves.clear_row.Tie as tie
-use Rattle.bitmap.proofs.moves.clear_row.Reads as reads
-use Rattle.bitmap.proofs.moves.clear_row.Lts as lts
 
 abbrev Inv-loop : tie.InvT-loop
 Inv-loop dst₀ to n k₀ dst k = (k ≤ n) × RowAt to blank dst₀ k dst
@@ -15,41 +15,38 @@ Inv-loop dst₀ to n k₀ dst k = (k ≤ n) × RowAt to blank dst₀ k dst
 abbrev μ-loop : tie.MeasureT-loop
 μ-loop dst₀ to n k₀ dst k = n - k
 
--- src/moves.rt:58:5
 loop-holds : tie.Need-loop-holds Inv-loop μ-loop
 loop-holds c = (search needs, row-none (c .args .to) blank (now (c .args .dst)))
 
--- src/moves.rt:59:13
 add-dst : tie.Need-add-dst Inv-loop μ-loop
 add-dst c = search needs
 
--- src/moves.rt:59:9
 mul-dst : tie.Need-mul-dst Inv-loop μ-loop
 mul-dst c = search needs
 
--- src/moves.rt:59:9
 slice-write-dst : tie.Need-slice-write-dst Inv-loop μ-loop
 slice-write-dst c = search needs
 
--- src/moves.rt:60:9
 add-k : tie.Need-add-k Inv-loop μ-loop
 add-k c = search needs
 
--- src/moves.rt:58:5
 loop-less : tie.Need-loop-less Inv-loop μ-loop
 loop-less c = search needs
 
--- src/moves.rt:58:5
 loop-again : tie.Need-loop-again Inv-loop μ-loop
-loop-again c = ?
+loop-again c =
+    let a = c .before .before .args in
+    let L = c .before .loop in
+    (search needs, row-more (a .to) blank (now (a .dst)) (L .k) (L .dst) 0 (omega arith) (L .inv .1) refl)
 
--- src/moves.rt:53:1
 same-length : tie.Need-same-length Inv-loop μ-loop
 same-length c = search needs
 
--- src/moves.rt:53:1
 returns : tie.Need-returns Inv-loop μ-loop
-returns c = ?
+returns c =
+    let L = c .before .loop in
+    let e : L .k ≡ c .before .before .args .n = omega arith in
+    rw e at (L .inv .1)
 
 pub clear-row-spec : {M : Type 1} → statement M
 clear-row-spec =

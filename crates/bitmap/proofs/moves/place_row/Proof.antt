@@ -1,59 +1,64 @@
+-- `bitmap::moves::place_row` meets its contract: the source row lies above the frame, in it or below it, a return each.
 use native.Mathlib.Omega.{arith}
 use borrow.Author.Needs.{needs}
+use Rattle.words.specs.Rows.{bias}
+use Prim.Native.Nat.{_+_, _*_, _-_}
+use denote.Ref.{now}
+use Rattle.rules.proofs.FrameLaws.{row-fits}
+use Rattle.bitmap.specs.Moves.{blank, movedWord, movedRow}
+use Rattle.bitmap.proofs.ShiftLaws.{row-same, row-before, row-inside, row-past}
 use Rattle.bitmap.proofs.moves.place_row.Statement.{statement}
 use Rattle.bitmap.proofs.moves.place_row.Tie as tie
-use Rattle.bitmap.proofs.moves.place_row.Reads as reads
-use Rattle.bitmap.proofs.moves.place_row.Lts as lts
-use Rattle.bitmap.proofs.moves.clear_row.Reads as clear-row-reads
-use Rattle.bitmap.proofs.moves.move_row.Reads as move-row-reads
 
--- src/moves.rt:81:14
 mul-to : tie.Need-mul-to
-mul-to c = search needs
+mul-to c = let a = c .before .before .args in omega (arith, row-fits (a .n) (a .h) (a .y) (omega arith))
 
--- src/moves.rt:82:17
 add-place : tie.Need-add-place
 add-place c = search needs
 
--- src/moves.rt:84:9
 clear-row-requires : tie.Need-clear-row-requires
-clear-row-requires c κs = search needs
+clear-row-requires c κs = let a = c .before .before .before .before .args in omega (arith, row-fits (a .n) (a .h) (a .y) (omega arith))
 
--- src/moves.rt:85:9
 same-length : tie.Need-same-length
 same-length c = search needs
 
--- src/moves.rt:85:9
 returns : tie.Need-returns
-returns c = ?
+returns c =
+    let a = c .before .before .before .before .before .before .before .args in
+    row-same (a .y * a .n) blank (movedRow (now (a .src)) (a .w) (a .h) (a .q) (a .r) (a .down) (a .y)) (now (a .dst)) (a .n) (c .before .before .clear-row .last .0)
+    (row-before (now (a .src)) (a .w) (a .h) (a .q) (a .r) (a .down) (a .y) (omega arith)) (c .before .before .clear-row .ensures)
 
--- src/moves.rt:89:23
 mul-move-row : tie.Need-mul-move-row
-mul-move-row c = search needs
+mul-move-row c = let a = c .before .before .before .before .args in omega (arith, row-fits (a .n) (a .h) (bias + a .y - a .down) (omega arith))
 
--- src/moves.rt:89:9
 move-row-requires : tie.Need-move-row-requires
-move-row-requires c κs = search needs
+move-row-requires c κs =
+    let a = c .before .before .before .before .before .args in
+    let s = row-fits (a .n) (a .h) (bias + a .y - a .down) (omega arith) in
+    let t = row-fits (a .n) (a .h) (a .y) (omega arith) in
+    (omega arith, (omega arith, (omega arith, (omega arith, omega arith))))
 
--- src/moves.rt:90:9
 same-length-2 : tie.Need-same-length-2
 same-length-2 c = search needs
 
--- src/moves.rt:90:9
 returns-2 : tie.Need-returns-2
-returns-2 c = ?
+returns-2 c =
+    let a = c .before .before .before .before .before .before .before .before .args in
+    row-same (a .y * a .n) (movedWord (now (a .src)) ((bias + a .y - a .down) * a .n) (a .w) (a .q) (a .r))
+    (movedRow (now (a .src)) (a .w) (a .h) (a .q) (a .r) (a .down) (a .y)) (now (a .dst)) (a .n) (c .before .before .move-row .last .1 .1 .0)
+    (row-inside (now (a .src)) (a .w) (a .h) (a .q) (a .r) (a .down) (a .y) (a .n) (omega arith) (omega arith) (omega arith)) (c .before .before .move-row .ensures)
 
--- src/moves.rt:92:5
 clear-row-requires-2 : tie.Need-clear-row-requires-2
-clear-row-requires-2 c κs = search needs
+clear-row-requires-2 c κs = let a = c .before .before .before .before .before .args in omega (arith, row-fits (a .n) (a .h) (a .y) (omega arith))
 
--- src/moves.rt:65:1
 same-length-3 : tie.Need-same-length-3
 same-length-3 c = search needs
 
--- src/moves.rt:65:1
 returns-3 : tie.Need-returns-3
-returns-3 c = ?
+returns-3 c =
+    let a = c .before .before .before .before .before .before .before .before .args in
+    row-same (a .y * a .n) blank (movedRow (now (a .src)) (a .w) (a .h) (a .q) (a .r) (a .down) (a .y)) (now (a .dst)) (a .n) (c .before .before .clear-row2 .last .0)
+    (row-past (now (a .src)) (a .w) (a .h) (a .q) (a .r) (a .down) (a .y) (omega arith) (omega arith)) (c .before .before .clear-row2 .ensures)
 
 pub place-row-spec : {M : Type 1} → statement M
 place-row-spec =
