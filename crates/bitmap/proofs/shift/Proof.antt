@@ -1,6 +1,6 @@
 -- `bitmap::shift` meets its contract: refused before anything is written, else the core's result at the moves as they were passed.
 use borrow.Author.Needs.{needs}
-use mathlib.Core.Path.{_≡_, refl, sym, _∙_}
+use mathlib.Core.Path.{refl, sym, _∙_}
 use mir.Facts.{toZ-ofZ}
 use denote.Ref.{now}
 use Rattle.rules.specs.Frames.{writtenOver}

@@ -2,7 +2,7 @@
 use native.Mathlib.Omega.{arith}
 use borrow.Author.Needs.{needs}
 use mathlib.Core.Path.{_≡_}
-use Prim.Native.Nat.{_≤_, _<_, _-_, _+_, _*_}
+use Prim.Native.Nat.{_≤_, _<_, _-_, _*_}
 use denote.Ref.{now}
 use Rattle.rules.proofs.FrameLaws.{RowAt, row-none, row-more}
 use Rattle.words.proofs.MoveLaws.{row-words-under, row-words-max}

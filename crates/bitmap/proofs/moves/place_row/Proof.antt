@@ -29,12 +29,12 @@ returns c =
     (row-before (now (a .src)) (a .w) (a .h) (a .q) (a .r) (a .down) (a .y) (omega arith)) (c .before .before .clear-row .ensures)
 
 mul-move-row : tie.Need-mul-move-row
-mul-move-row c = let a = c .before .before .before .before .args in omega (arith, row-fits (a .n) (a .h) (bias + a .y - a .down) (omega arith))
+mul-move-row c = let a = c .before .before .before .before .args in omega (arith, row-fits (a .n) (a .h) _ (c .if2 .taken))
 
 move-row-requires : tie.Need-move-row-requires
 move-row-requires c κs =
     let a = c .before .before .before .before .before .args in
-    let s = row-fits (a .n) (a .h) (bias + a .y - a .down) (omega arith) in
+    let s = row-fits (a .n) (a .h) _ (c .before .if2 .taken) in
     let t = row-fits (a .n) (a .h) (a .y) (omega arith) in
     (omega arith, (omega arith, (omega arith, (omega arith, omega arith))))
 
