@@ -1,5 +1,5 @@
 -- Laws of rows and their moves: a row's pixels in its words, a word of a moved row from two words of the row, and signed moves as biased ones.
-use mathlib.Core.Path.{_≡_, refl, sym, ap, ap₂, _∙_}
+use mathlib.Core.Path.{_≡_, refl, sym, ap, ap₂, subst, _∙_}
 use mathlib.Core.Bool.{Bool, true, false, _&&_, cond}
 use mathlib.Core.Logic.{⊎-elim}
 use mathlib.Core.List.{List}
@@ -61,6 +61,9 @@ row-bit words base w k i l m =
     let r : (k * 64 + i) % 64 ≡ i = omega arith in
     gate-lt (k * 64 + i) w (bit (getD words (base + (k * 64 + i) / 64) 0) ((k * 64 + i) % 64)) l
     ∙ ap₂ (λ (a b : ℕ). bit (getD words (base + a) 0) b) q r
+
+pub row-whole : (words : List ℕ) (base w k : ℕ) → k * 64 + 64 ≤ w → WordOf (rowBit words base w) k (getD words (base + k) 0)
+row-whole words base w k l i m = sym (row-bit words base w k i (omega arith) m)
 
 pub row-past : (words : List ℕ) (base w x : ℕ) → w ≤ x → rowBit words base w x ≡ 0
 unfolding rowBit
@@ -129,11 +132,12 @@ module _ (f : ℕ → ℕ) (k q r : ℕ) where
       ∙ s (i - r) (omega arith)
       ∙ sym (back-at f (q * 64 + r) ((k - q) * 64 + (i - r)) (k * 64 + i) (omega arith))
 
-  pub moved-first : (v : ℕ) → q ≡ k → WordOf f (k - q) v → WordOf (back f (q * 64 + r)) k (v * 2 ^ r % 2 ^ 64)
+  pub moved-first : (v : ℕ) → q ≡ k → WordOf f 0 v → WordOf (back f (q * 64 + r)) k (v * 2 ^ r % 2 ^ 64)
   moved-first v e s i m =
+      let z : 0 ≡ k - q = omega arith in
       ⊎-elim
       (λ (n : i < r). bit-shl64-low v r i n ∙ sym (back-under f (q * 64 + r) (k * 64 + i) (omega arith)))
-      (λ (n : r ≤ i). upper v (omega arith) s i m n)
+      (λ (n : r ≤ i). upper v (omega arith) (subst (λ (j : ℕ). WordOf f j v) z s) i m n)
       (order i r)
 
   pub moved-joined : (v u : ℕ) → q < k → r < 64 → u < 2 ^ 64 → WordOf f (k - q) v → WordOf f (k - q - 1) u

@@ -41,25 +41,33 @@ pub fn row_word(src: &[u64], base: usize, w: usize, k: usize) -> u64
     0
 }
 
-// Word k of the row moved to the right by 64·q + r places.
+// Word k of the row moved to the right by 64·q + r places. Words of which both parts lie inside w, most
+// of a row, are joined with no mask.
 pub fn moved_word(src: &[u64], base: usize, w: usize, k: usize, q: usize, r: usize) -> u64
     requires room { ⌜ base + rowWords w ≤ length (now src) ⌝ }
     requires near { ⌜ k < 4294967296 ⌝ }
     requires rest { ⌜ r < wordBits ⌝ }
     ensures { λ v. ⌜ WordOf (back (rowBit (now (src .entry)) base w) (q * wordBits + r)) k v ⌝ }
 {
-    if k < q {
-        return 0;
-    }
-    let high = row_word(src, base, w, k - q);
     if r == 0 {
-        return high;
+        if k < q {
+            return 0;
+        }
+        return row_word(src, base, w, k - q);
+    }
+    if q < k {
+        let j = k - q;
+        if j * WORD_BITS + WORD_BITS <= w {
+            return (src[base + j] << r) | (src[base + (j - 1)] >> (WORD_BITS - r));
+        }
+        let high = row_word(src, base, w, j);
+        let low = row_word(src, base, w, j - 1);
+        return (high << r) | (low >> (WORD_BITS - r));
     }
     if q == k {
-        return high << r;
+        return row_word(src, base, w, 0) << r;
     }
-    let low = row_word(src, base, w, k - q - 1);
-    (high << r) | (low >> (WORD_BITS - r))
+    0
 }
 
 // A signed move counted from the least one, so that it is never negative.
