@@ -19,7 +19,7 @@ use Rattle.rules.specs.Sums.{gate}
 use Rattle.rules.specs.Planes.{within}
 use Rattle.rules.specs.Bitmaps.{bit, bitAt, rowWords}
 use Rattle.rules.proofs.SumLaws.{order}
-use Rattle.words.specs.Rows.{rowBit, back, WordOf, bias, biasWords, biasOf}
+use Rattle.words.specs.Rows.{rowBit, back, WordOf, bias, biasOf}
 use Rattle.words.proofs.BitLaws.{bit-or, bit-shr, bit-above, bit-zero, bit-mod-low, bit-mod-high, bit-shl64-high, bit-shl64-low}
 
 -- ---- gates
@@ -49,10 +49,6 @@ row-words-under w k l = omega arith
 pub row-words-max : (w : ℕ) → w ≤ 4096 → rowWords w ≤ 64
 unfolding rowWords
 row-words-max w l = omega arith
-
-pub row-words-all : (w : ℕ) → w ≤ rowWords w * 64
-unfolding rowWords
-row-words-all w = omega arith
 
 pub row-bit : (words : List ℕ) (base w k i : ℕ) → k * 64 + i < w → i < 64 → rowBit words base w (k * 64 + i) ≡ bit (getD words (base + k) 0) i
 unfolding rowBit
@@ -227,7 +223,7 @@ module _ (n x : ℕ) (d : ℤ) (f : ℕ → ℕ) (b : SFits w32 d) where
       ∙ back-at (λ k. gate (ltb k n) (f k)) (biasOf d) (bias + x - biasOf d) (bias + x) (omega arith)
       ∙ gate-ge (bias + x - biasOf d) n (f (bias + x - biasOf d)) m
 
--- word k of a row moved by a signed number: in biased places, by the biased number's quotient and remainder
+-- a row moved by a signed number, in biased places
 module _ (words : List ℕ) (base w : ℕ) (d : ℤ) (b : SFits w32 d) where
   row-gated : (x : ℕ) → gate (ltb x w) (rowBit words base w x) ≡ rowBit words base w x
   row-gated x =
@@ -238,10 +234,3 @@ module _ (words : List ℕ) (base w : ℕ) (d : ℤ) (b : SFits w32 d) where
 
   pub moved-by : (x : ℕ) → within w (pos x -ℤ d) (rowBit words base w) ≡ back (rowBit words base w) (biasOf d) (bias + x)
   moved-by x = within-back w x d (rowBit words base w) b ∙ (λ i. back (λ k. row-gated k i) (biasOf d) (bias + x))
-
-  pub moved-within : (k v : ℕ) → WordOf (back (rowBit words base w) (biasOf d / 64 * 64 + biasOf d % 64)) (k + biasWords) v
-      → WordOf (λ x. within w (pos x -ℤ d) (rowBit words base w)) k v
-  moved-within k v s i l =
-      let e : biasOf d / 64 * 64 + biasOf d % 64 ≡ biasOf d = omega arith in
-      let p : (k + biasWords) * 64 + i ≡ bias + (k * 64 + i) = omega arith in
-      s i l ∙ ap₂ (λ (m n : ℕ). back (rowBit words base w) m n) e p ∙ sym (moved-by (k * 64 + i))
