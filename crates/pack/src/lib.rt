@@ -1,0 +1,3 @@
+// Packing of grey frames into bitmaps.
+
+mod gather;
