@@ -1,0 +1,103 @@
+-- Laws of flags and of the words that they make.
+use mathlib.Core.Path.{_≡_, refl, sym, ap, _∙_}
+use mathlib.Core.Bool.{Bool, true, false, _||_}
+use mathlib.Core.Logic.{_⊎_, inl, inr, ⊎-elim}
+use mathlib.Core.List.{List}
+use Prim.Native.Nat.{ℕ, zero, suc, _+_, _*_, _-_, _/_, _%_, _≤_, _<_, min}
+use native.Mathlib.Nat.{add-assoc}
+use native.Mathlib.Omega.{arith}
+use lib.Dec.{ltb}
+use lib.ListN.{length, getD, set}
+use lib.Seq.{getD-set-same, getD-set-other}
+use borrow.Author.Tests.{lt-ltb, le-ltb}
+use Rattle.rules.specs.Sums.{gate, oneIf}
+use Rattle.rules.specs.Frames.{Frame}
+use Rattle.rules.specs.Bitmaps.{rowWords, word, wordOf}
+use Rattle.rules.proofs.SumLaws.{order}
+use Rattle.rules.proofs.FrameLaws.{RowAt, row-more}
+use Rattle.words.proofs.BitLaws.{word-ext}
+use Rattle.pack.specs.Outside.{outsideBit, flagAt, outsideWord}
+
+one-if-lt : (t : Bool) → oneIf t < 2
+one-if-lt true = omega arith
+one-if-lt false = omega arith
+
+pub outside-lt : (lo hi v : ℕ) → outsideBit lo hi v < 2
+unfolding outsideBit
+outside-lt lo hi v = one-if-lt (ltb v lo || ltb hi v)
+
+gate-lt : (t : Bool) (n : ℕ) → n < 2 → gate t n < 2
+gate-lt true n l = l
+gate-lt false n l = omega arith
+
+pub flag-lt : (lo hi : ℕ) (grey : List ℕ) (at n i : ℕ) → flagAt lo hi grey at n i < 2
+unfolding flagAt
+flag-lt lo hi grey at n i = gate-lt (ltb i n) (outsideBit lo hi (getD grey (at + i) 0)) (outside-lt lo hi (getD grey (at + i) 0))
+
+pub flag-in : (lo hi : ℕ) (grey : List ℕ) (at n i : ℕ) → i < n → flagAt lo hi grey at n i ≡ outsideBit lo hi (getD grey (at + i) 0)
+unfolding flagAt
+flag-in lo hi grey at n i l = ap (λ t. gate t (outsideBit lo hi (getD grey (at + i) 0))) (lt-ltb i n l)
+
+pub flag-past : (lo hi : ℕ) (grey : List ℕ) (at n i : ℕ) → n ≤ i → flagAt lo hi grey at n i ≡ 0
+unfolding flagAt
+flag-past lo hi grey at n i l = ap (λ t. gate t (outsideBit lo hi (getD grey (at + i) 0))) (le-ltb i n l)
+
+-- one flag more
+pub flags-more : (lo hi : ℕ) (grey : List ℕ) (at i : ℕ) (flags : List ℕ) (v : ℕ) → i < length flags
+    → ((k : ℕ) → k < 64 → getD flags k 0 ≡ flagAt lo hi grey at i k) → v ≡ outsideBit lo hi (getD grey (at + i) 0)
+    → (k : ℕ) → k < 64 → getD (set flags i v) k 0 ≡ flagAt lo hi grey at (i + 1) k
+flags-more lo hi grey at i flags v room e d k l =
+    ⊎-elim (λ (m : k < i). below m) (λ (m : i ≤ k). ⊎-elim (λ (n : i < k). above n) (λ (n : k ≤ i). here m n) (order i k)) (order k i)
+  where
+    below : k < i → getD (set flags i v) k 0 ≡ flagAt lo hi grey at (i + 1) k
+    below m =
+        getD-set-other flags i k v 0 (λ f. omega arith)
+        ∙ e k l ∙ flag-in lo hi grey at i k m ∙ sym (flag-in lo hi grey at (i + 1) k (omega arith))
+
+    above : i < k → getD (set flags i v) k 0 ≡ flagAt lo hi grey at (i + 1) k
+    above m =
+        getD-set-other flags i k v 0 (λ f. omega arith)
+        ∙ e k l ∙ flag-past lo hi grey at i k (omega arith) ∙ sym (flag-past lo hi grey at (i + 1) k (omega arith))
+
+    here : i ≤ k → k ≤ i → getD (set flags i v) k 0 ≡ flagAt lo hi grey at (i + 1) k
+    here m n =
+        let f : k ≡ i = omega arith in
+        ap (λ (j : ℕ). getD (set flags i v) j 0) f
+        ∙ getD-set-same flags i v 0 room
+        ∙ d
+        ∙ ap (λ (j : ℕ). outsideBit lo hi (getD grey (at + j) 0)) (sym f)
+        ∙ sym (flag-in lo hi grey at (i + 1) k (omega arith))
+
+-- the words of a row: a full one for each 64 pixels, and one for what is left
+pub no-rest : (w : ℕ) → w % 64 ≤ 0 → w / 64 ≡ rowWords w
+unfolding rowWords
+no-rest w l = omega arith
+
+pub some-rest : (w : ℕ) → 0 < w % 64 → w / 64 + 1 ≡ rowWords w
+unfolding rowWords
+some-rest w l = omega arith
+
+pub full-fits : (w : ℕ) → w / 64 ≤ rowWords w
+unfolding rowWords
+full-fits w = omega arith
+
+-- word k of a row, from its flags: 64 pixels, or what is left of the row
+pub word-of-flags : (lo hi : ℕ) (grey : List ℕ) (from w k n : ℕ) → n ≡ min 64 (w - k * 64)
+    → word (flagAt lo hi grey (from + k * 64) n) ≡ outsideWord lo hi grey from w k
+unfolding outsideWord wordOf
+word-of-flags lo hi grey from w k n e =
+    word-ext (flagAt lo hi grey (from + k * 64) n) (λ i. gate (ltb (k * 64 + i) w) (outsideBit lo hi (getD grey (from + (k * 64 + i)) 0))) same
+  where
+    same : (i : ℕ) → i < 64 → flagAt lo hi grey (from + k * 64) n i ≡ gate (ltb (k * 64 + i) w) (outsideBit lo hi (getD grey (from + (k * 64 + i)) 0))
+    same i l = ⊎-elim (λ (m : i < n). inside m) (λ (m : n ≤ i). past m) (order i n)
+      where
+        inside : i < n → flagAt lo hi grey (from + k * 64) n i ≡ gate (ltb (k * 64 + i) w) (outsideBit lo hi (getD grey (from + (k * 64 + i)) 0))
+        inside m =
+            flag-in lo hi grey (from + k * 64) n i m
+            ∙ ap (λ (j : ℕ). outsideBit lo hi (getD grey j 0)) (add-assoc from (k * 64) i)
+            ∙ sym (ap (λ t. gate t (outsideBit lo hi (getD grey (from + (k * 64 + i)) 0))) (lt-ltb (k * 64 + i) w (omega arith)))
+
+        past : n ≤ i → flagAt lo hi grey (from + k * 64) n i ≡ gate (ltb (k * 64 + i) w) (outsideBit lo hi (getD grey (from + (k * 64 + i)) 0))
+        past m =
+            flag-past lo hi grey (from + k * 64) n i m
+            ∙ sym (ap (λ t. gate t (outsideBit lo hi (getD grey (from + (k * 64 + i)) 0))) (le-ltb (k * 64 + i) w (omega arith)))
