@@ -2,3 +2,7 @@
 pub mod SumLaws
 pub mod FrameLaws
 pub mod RefusalLaws
+pub mod GreyLaws
+pub mod ThresholdLaws
+pub mod DifferenceLaws
+pub mod ExampleLaws

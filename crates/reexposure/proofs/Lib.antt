@@ -1,0 +1,5 @@
+-- The proof of the re-exposure theorem, lowest first.
+pub mod Links
+pub mod Pairs
+pub mod Bounds
+pub mod Theorem
