@@ -3,7 +3,7 @@ use mathlib.Core.Path.{_≡_, refl, sym, ap, _∙_}
 use mathlib.Core.Bool.{Bool, true, false, _||_}
 use mathlib.Core.Logic.{_⊎_, inl, inr, ⊎-elim}
 use mathlib.Core.List.{List}
-use Prim.Native.Nat.{ℕ, zero, suc, _+_, _*_, _-_, _/_, _%_, _≤_, _<_, min}
+use Prim.Native.Nat.{ℕ, zero, suc, _+_, _*_, _-_, _/_, _%_, _≤_, _<_, min, max}
 use native.Mathlib.Nat.{add-assoc}
 use native.Mathlib.Omega.{arith}
 use lib.Dec.{ltb}
@@ -11,12 +11,55 @@ use lib.ListN.{length, getD, set}
 use lib.Seq.{getD-set-same, getD-set-other}
 use borrow.Author.Tests.{lt-ltb, le-ltb}
 use Rattle.rules.specs.Sums.{gate, oneIf}
-use Rattle.rules.specs.Frames.{Frame}
-use Rattle.rules.specs.Bitmaps.{rowWords, word, wordOf}
+use Rattle.rules.specs.Frames.{Frame, frameOf}
+use Rattle.rules.specs.Planes.{thresholdBit, distance, exclusionBit, bitsBy}
+use Rattle.rules.specs.Bitmaps.{rowWords, word, wordOf, packed}
 use Rattle.rules.proofs.SumLaws.{order}
-use Rattle.rules.proofs.FrameLaws.{RowAt, row-more}
+use Rattle.rules.proofs.FrameLaws.{RowAt, FrameAt, frame-more, row-fits}
 use Rattle.words.proofs.BitLaws.{word-ext}
-use Rattle.pack.specs.Outside.{outsideBit, flagAt, outsideWord}
+use Rattle.pack.specs.Outside.{outsideBit, outsidePlane, flagAt, outsideWord}
+
+-- "Threshold bit: 1 where grey > t."
+pub threshold-outside : (t v : ℕ) → thresholdBit t v ≡ outsideBit 0 t v
+unfolding thresholdBit outsideBit
+threshold-outside t v = sym (ap (λ b. oneIf (b || ltb t v)) (le-ltb v 0 (omega arith)))
+
+-- "Exclusion bit: 0 where |grey − t| ≤ T, else 1." An end of the interval past the grey values of a byte is cut.
+pub exclusion-outside : (t tolerance v : ℕ) → v ≤ 255
+    → exclusionBit t tolerance v ≡ outsideBit (t - tolerance) (min 255 (t + tolerance)) v
+unfolding exclusionBit distance outsideBit
+exclusion-outside t tolerance v l =
+    ⊎-elim below (λ (m : t - tolerance ≤ v). ⊎-elim (above m) (within m) (order (min 255 (t + tolerance)) v)) (order v (t - tolerance))
+  where
+    below : v < t - tolerance → exclusionBit t tolerance v ≡ outsideBit (t - tolerance) (min 255 (t + tolerance)) v
+    below m = simp (lt-ltb tolerance (max v t - min v t) (omega arith), lt-ltb v (t - tolerance) m)
+
+    above : t - tolerance ≤ v → min 255 (t + tolerance) < v → exclusionBit t tolerance v ≡ outsideBit (t - tolerance) (min 255 (t + tolerance)) v
+    above m n =
+        simp (
+          lt-ltb tolerance (max v t - min v t) (omega arith),
+          le-ltb v (t - tolerance) m,
+          lt-ltb (min 255 (t + tolerance)) v n,
+        )
+
+    within : t - tolerance ≤ v → v ≤ min 255 (t + tolerance) → exclusionBit t tolerance v ≡ outsideBit (t - tolerance) (min 255 (t + tolerance)) v
+    within m n =
+        simp (
+          le-ltb tolerance (max v t - min v t) (omega arith),
+          le-ltb v (t - tolerance) m,
+          le-ltb (min 255 (t + tolerance)) v n,
+        )
+
+-- the planes of a grey frame
+pub threshold-plane : (t w : ℕ) (grey : List ℕ) → bitsBy (thresholdBit t) (frameOf w grey) ≡ outsidePlane 0 t w grey
+unfolding outsidePlane
+threshold-plane t w grey = λ i x y. threshold-outside t (frameOf w grey x y) i
+
+pub exclusion-plane : (t tolerance w : ℕ) (grey : List ℕ) → ((i : ℕ) → getD grey i 0 < 256)
+    → bitsBy (exclusionBit t tolerance) (frameOf w grey) ≡ outsidePlane (t - tolerance) (min 255 (t + tolerance)) w grey
+unfolding outsidePlane frameOf
+exclusion-plane t tolerance w grey bytes =
+    λ i x y. exclusion-outside t tolerance (frameOf w grey x y) (let b = bytes (y * w + x) in omega arith) i
 
 one-if-lt : (t : Bool) → oneIf t < 2
 one-if-lt true = omega arith
@@ -101,3 +144,16 @@ word-of-flags lo hi grey from w k n e =
         past m =
             flag-past lo hi grey (from + k * 64) n i m
             ∙ sym (ap (λ t. gate t (outsideBit lo hi (getD grey (from + (k * 64 + i)) 0))) (le-ltb (k * 64 + i) w (omega arith)))
+
+-- The row that begins at place y * w is row y of the frame: one row more of its words from place `to` on.
+pub frame-row : (lo hi w y : ℕ) (grey : List ℕ) (to place : ℕ) (before mid after : List ℕ) → place ≡ to + y * rowWords w
+    → FrameAt to (rowWords w) (wordOf w (outsidePlane lo hi w grey)) before y mid
+    → RowAt place (outsideWord lo hi grey (y * w) w) mid (rowWords w) after
+    → FrameAt to (rowWords w) (wordOf w (outsidePlane lo hi w grey)) before (y + 1) after
+unfolding outsideWord outsidePlane wordOf frameOf
+frame-row lo hi w y grey to place before mid after e a r =
+    frame-more to (rowWords w) (wordOf w (outsidePlane lo hi w grey)) before y mid after a (rw e at r)
+
+-- the place of row y of a bitmap, and its end
+pub row-place : (w h n y : ℕ) → n ≡ rowWords w → y < h → (y * n ≡ 0 + y * rowWords w) × (y * n + rowWords w ≤ rowWords w * h)
+row-place w h n y e l = rw e (omega (arith, row-fits (rowWords w) h y l))
