@@ -11,11 +11,11 @@ use lib.ListN.{length, getD, set}
 use lib.Seq.{getD-set-same, getD-set-other}
 use borrow.Author.Tests.{lt-ltb, le-ltb}
 use Rattle.rules.specs.Sums.{gate, oneIf}
-use Rattle.rules.specs.Frames.{Frame, frameOf}
+use Rattle.rules.specs.Frames.{Frame, frameOf, writtenOver}
 use Rattle.rules.specs.Planes.{thresholdBit, distance, exclusionBit, bitsBy}
 use Rattle.rules.specs.Bitmaps.{rowWords, word, wordOf, packed}
 use Rattle.rules.proofs.SumLaws.{order}
-use Rattle.rules.proofs.FrameLaws.{RowAt, FrameAt, frame-more, row-fits}
+use Rattle.rules.proofs.FrameLaws.{RowAt, FrameAt, frame-more, frame-written, row-fits}
 use Rattle.words.proofs.BitLaws.{word-ext}
 use Rattle.pack.specs.Outside.{outsideBit, outsidePlane, flagAt, outsideWord}
 
@@ -157,3 +157,10 @@ frame-row lo hi w y grey to place before mid after e a r =
 -- the place of row y of a bitmap, and its end
 pub row-place : (w h n y : ℕ) → n ≡ rowWords w → y < h → (y * n ≡ 0 + y * rowWords w) × (y * n + rowWords w ≤ rowWords w * h)
 row-place w h n y e l = rw e (omega (arith, row-fits (rowWords w) h y l))
+
+-- a whole bitmap written, by another plane with the same bits
+pub packed-plane : (w h : ℕ) (f g : Frame) (before after : List ℕ) → f ≡ g → rowWords w * h ≤ length before
+    → FrameAt 0 (rowWords w) (wordOf w g) before h after → after ≡ writtenOver (packed w h f) before
+unfolding packed
+packed-plane w h f g before after e room a =
+    frame-written (rowWords w) h (wordOf w g) before after room a ∙ ap (λ (p : Frame). writtenOver (packed w h p) before) (sym e)
