@@ -1,14 +1,15 @@
-// 64 flags, each 0 or 1, gathered into a word with no step for a single flag: the compiler makes one
-// load of eight flags joined by `|` and `<<`.
+// 64 flags, each 0 or 1, gathered into a word with no step for a single flag: eight words of eight
+// flags are laid over each other, which makes the word's 8 by 8 bits the flags' by columns, and three
+// exchanges of bits turn columns into rows.
 
 ghost use mathlib.Core.Path.{_≡_};
 ghost use mathlib.Core.List.{[], _∷_};
 ghost use Prim.Native.Nat.{ℕ, _+_, _≤_, _<_};
 ghost use lib.ListN.{getD};
 ghost use Rattle.rules.specs.Bitmaps.{word};
-ghost use Rattle.pack.specs.Gathers.{Bytes, Gathered};
+ghost use Rattle.pack.specs.Gathers.{Bytes, exchanged};
 
-// The word of eight bytes, the lowest first.
+// The word of eight bytes, the lowest first. (With `|` and `<<` the compiler sees one load.)
 fn join(a: u8, b: u8, c: u8, d: u8, e: u8, f: u8, g: u8, h: u8) -> u64
     ensures { λ r. ⌜ Bytes 8 (λ k. getD (a ∷ b ∷ c ∷ d ∷ e ∷ f ∷ g ∷ h ∷ []) k 0) r ⌝ }
 {
@@ -22,12 +23,12 @@ fn join(a: u8, b: u8, c: u8, d: u8, e: u8, f: u8, g: u8, h: u8) -> u64
         | ((h as u64) << 56)
 }
 
-// The eight flags from place `at` on as a byte. Flag k stands at bit 8k of x, and moves down by 7k.
-fn gather_byte(flags: &[u8; 64], at: usize) -> u8
-    requires { ⌜ (at + 8 ≤ 64) × ((i : ℕ) → i < 64 → getD (now flags) i 0 < 2) ⌝ }
-    ensures { λ r. ⌜ Gathered (now (flags .entry)) at r ⌝ }
+// The word of the eight flags from place `at` on, one a byte.
+fn eight_flags(flags: &[u8; 64], at: usize) -> u64
+    requires { ⌜ at + 8 ≤ 64 ⌝ }
+    ensures { λ r. ⌜ Bytes 8 (λ k. getD (now (flags .entry)) (at + k) 0) r ⌝ }
 {
-    let x = join(
+    join(
         flags[at],
         flags[at + 1],
         flags[at + 2],
@@ -36,10 +37,16 @@ fn gather_byte(flags: &[u8; 64], at: usize) -> u8
         flags[at + 5],
         flags[at + 6],
         flags[at + 7],
-    );
-    let t = x | (x >> 7);
-    let u = t | (t >> 14);
-    ((u | (u >> 28)) % 256) as u8
+    )
+}
+
+// Where bit p of the mask is 1, bits p and p + s of y exchanged.
+fn exchange(mask: u64, s: u32, y: u64) -> u64
+    requires { ⌜ s < 64 ⌝ }
+    ensures { λ r. ⌜ r ≡ exchanged mask s y ⌝ }
+{
+    let t = (y ^ (y >> s)) & mask;
+    y ^ t ^ (t << s)
 }
 
 // The word whose bit i is flag i.
@@ -47,14 +54,15 @@ pub fn gather_word(flags: &[u8; 64]) -> u64
     requires { ⌜ ((i : ℕ) → i < 64 → getD (now flags) i 0 < 2) ⌝ }
     ensures { λ r. ⌜ r ≡ word (λ i. getD (now (flags .entry)) i 0) ⌝ }
 {
-    join(
-        gather_byte(flags, 0),
-        gather_byte(flags, 8),
-        gather_byte(flags, 16),
-        gather_byte(flags, 24),
-        gather_byte(flags, 32),
-        gather_byte(flags, 40),
-        gather_byte(flags, 48),
-        gather_byte(flags, 56),
-    )
+    let columns = eight_flags(flags, 0)
+        | (eight_flags(flags, 8) << 1)
+        | (eight_flags(flags, 16) << 2)
+        | (eight_flags(flags, 24) << 3)
+        | (eight_flags(flags, 32) << 4)
+        | (eight_flags(flags, 40) << 5)
+        | (eight_flags(flags, 48) << 6)
+        | (eight_flags(flags, 56) << 7);
+    let near = exchange(0x00AA_00AA_00AA_00AA, 7, columns);
+    let far = exchange(0x0000_CCCC_0000_CCCC, 14, near);
+    exchange(0x0000_0000_F0F0_F0F0, 28, far)
 }
