@@ -1,0 +1,166 @@
+-- Laws of flags and of the words that they make.
+use mathlib.Core.Path.{_≡_, refl, sym, ap, _∙_}
+use mathlib.Core.Bool.{Bool, true, false, _||_}
+use mathlib.Core.Logic.{_⊎_, inl, inr, ⊎-elim}
+use mathlib.Core.List.{List}
+use Prim.Native.Nat.{ℕ, zero, suc, _+_, _*_, _-_, _/_, _%_, _≤_, _<_, min, max}
+use native.Mathlib.Nat.{add-assoc}
+use native.Mathlib.Omega.{arith}
+use lib.Dec.{ltb}
+use lib.ListN.{length, getD, set}
+use lib.Seq.{getD-set-same, getD-set-other}
+use borrow.Author.Tests.{lt-ltb, le-ltb}
+use Rattle.rules.specs.Sums.{gate, oneIf}
+use Rattle.rules.specs.Frames.{Frame, frameOf, writtenOver}
+use Rattle.rules.specs.Planes.{thresholdBit, distance, exclusionBit, bitsBy}
+use Rattle.rules.specs.Bitmaps.{rowWords, word, wordOf, packed}
+use Rattle.rules.proofs.SumLaws.{order}
+use Rattle.rules.proofs.FrameLaws.{RowAt, FrameAt, frame-more, frame-written, row-fits}
+use Rattle.words.proofs.BitLaws.{word-ext}
+use Rattle.pack.specs.Outside.{outsideBit, outsidePlane, flagAt, outsideWord}
+
+-- "Threshold bit: 1 where grey > t."
+pub threshold-outside : (t v : ℕ) → thresholdBit t v ≡ outsideBit 0 t v
+unfolding thresholdBit outsideBit
+threshold-outside t v = sym (ap (λ b. oneIf (b || ltb t v)) (le-ltb v 0 (omega arith)))
+
+-- "Exclusion bit: 0 where |grey − t| ≤ T, else 1." An end of the interval past the grey values of a byte is cut.
+pub exclusion-outside : (t tolerance v : ℕ) → v ≤ 255
+    → exclusionBit t tolerance v ≡ outsideBit (t - tolerance) (min 255 (t + tolerance)) v
+unfolding exclusionBit distance outsideBit
+exclusion-outside t tolerance v l =
+    ⊎-elim below (λ (m : t - tolerance ≤ v). ⊎-elim (above m) (within m) (order (min 255 (t + tolerance)) v)) (order v (t - tolerance))
+  where
+    below : v < t - tolerance → exclusionBit t tolerance v ≡ outsideBit (t - tolerance) (min 255 (t + tolerance)) v
+    below m = simp (lt-ltb tolerance (max v t - min v t) (omega arith), lt-ltb v (t - tolerance) m)
+
+    above : t - tolerance ≤ v → min 255 (t + tolerance) < v → exclusionBit t tolerance v ≡ outsideBit (t - tolerance) (min 255 (t + tolerance)) v
+    above m n =
+        simp (
+          lt-ltb tolerance (max v t - min v t) (omega arith),
+          le-ltb v (t - tolerance) m,
+          lt-ltb (min 255 (t + tolerance)) v n,
+        )
+
+    within : t - tolerance ≤ v → v ≤ min 255 (t + tolerance) → exclusionBit t tolerance v ≡ outsideBit (t - tolerance) (min 255 (t + tolerance)) v
+    within m n =
+        simp (
+          le-ltb tolerance (max v t - min v t) (omega arith),
+          le-ltb v (t - tolerance) m,
+          le-ltb (min 255 (t + tolerance)) v n,
+        )
+
+-- the planes of a grey frame
+pub threshold-plane : (t w : ℕ) (grey : List ℕ) → bitsBy (thresholdBit t) (frameOf w grey) ≡ outsidePlane 0 t w grey
+unfolding outsidePlane
+threshold-plane t w grey = λ i x y. threshold-outside t (frameOf w grey x y) i
+
+pub exclusion-plane : (t tolerance w : ℕ) (grey : List ℕ) → ((i : ℕ) → getD grey i 0 < 256)
+    → bitsBy (exclusionBit t tolerance) (frameOf w grey) ≡ outsidePlane (t - tolerance) (min 255 (t + tolerance)) w grey
+unfolding outsidePlane frameOf
+exclusion-plane t tolerance w grey bytes =
+    λ i x y. exclusion-outside t tolerance (frameOf w grey x y) (let b = bytes (y * w + x) in omega arith) i
+
+one-if-lt : (t : Bool) → oneIf t < 2
+one-if-lt true = omega arith
+one-if-lt false = omega arith
+
+pub outside-lt : (lo hi v : ℕ) → outsideBit lo hi v < 2
+unfolding outsideBit
+outside-lt lo hi v = one-if-lt (ltb v lo || ltb hi v)
+
+gate-lt : (t : Bool) (n : ℕ) → n < 2 → gate t n < 2
+gate-lt true n l = l
+gate-lt false n l = omega arith
+
+pub flag-lt : (lo hi : ℕ) (grey : List ℕ) (at n i : ℕ) → flagAt lo hi grey at n i < 2
+unfolding flagAt
+flag-lt lo hi grey at n i = gate-lt (ltb i n) (outsideBit lo hi (getD grey (at + i) 0)) (outside-lt lo hi (getD grey (at + i) 0))
+
+pub flag-in : (lo hi : ℕ) (grey : List ℕ) (at n i : ℕ) → i < n → flagAt lo hi grey at n i ≡ outsideBit lo hi (getD grey (at + i) 0)
+unfolding flagAt
+flag-in lo hi grey at n i l = ap (λ t. gate t (outsideBit lo hi (getD grey (at + i) 0))) (lt-ltb i n l)
+
+pub flag-past : (lo hi : ℕ) (grey : List ℕ) (at n i : ℕ) → n ≤ i → flagAt lo hi grey at n i ≡ 0
+unfolding flagAt
+flag-past lo hi grey at n i l = ap (λ t. gate t (outsideBit lo hi (getD grey (at + i) 0))) (le-ltb i n l)
+
+-- one flag more
+pub flags-more : (lo hi : ℕ) (grey : List ℕ) (at i : ℕ) (flags : List ℕ) (v : ℕ) → i < length flags
+    → ((k : ℕ) → k < 64 → getD flags k 0 ≡ flagAt lo hi grey at i k) → v ≡ outsideBit lo hi (getD grey (at + i) 0)
+    → (k : ℕ) → k < 64 → getD (set flags i v) k 0 ≡ flagAt lo hi grey at (i + 1) k
+flags-more lo hi grey at i flags v room e d k l =
+    ⊎-elim (λ (m : k < i). below m) (λ (m : i ≤ k). ⊎-elim (λ (n : i < k). above n) (λ (n : k ≤ i). here m n) (order i k)) (order k i)
+  where
+    below : k < i → getD (set flags i v) k 0 ≡ flagAt lo hi grey at (i + 1) k
+    below m =
+        getD-set-other flags i k v 0 (λ f. omega arith)
+        ∙ e k l ∙ flag-in lo hi grey at i k m ∙ sym (flag-in lo hi grey at (i + 1) k (omega arith))
+
+    above : i < k → getD (set flags i v) k 0 ≡ flagAt lo hi grey at (i + 1) k
+    above m =
+        getD-set-other flags i k v 0 (λ f. omega arith)
+        ∙ e k l ∙ flag-past lo hi grey at i k (omega arith) ∙ sym (flag-past lo hi grey at (i + 1) k (omega arith))
+
+    here : i ≤ k → k ≤ i → getD (set flags i v) k 0 ≡ flagAt lo hi grey at (i + 1) k
+    here m n =
+        let f : k ≡ i = omega arith in
+        ap (λ (j : ℕ). getD (set flags i v) j 0) f
+        ∙ getD-set-same flags i v 0 room
+        ∙ d
+        ∙ ap (λ (j : ℕ). outsideBit lo hi (getD grey (at + j) 0)) (sym f)
+        ∙ sym (flag-in lo hi grey at (i + 1) k (omega arith))
+
+-- the words of a row: a full one for each 64 pixels, and one for what is left
+pub no-rest : (w : ℕ) → w % 64 ≤ 0 → w / 64 ≡ rowWords w
+unfolding rowWords
+no-rest w l = omega arith
+
+pub some-rest : (w : ℕ) → 0 < w % 64 → w / 64 + 1 ≡ rowWords w
+unfolding rowWords
+some-rest w l = omega arith
+
+pub full-fits : (w : ℕ) → w / 64 ≤ rowWords w
+unfolding rowWords
+full-fits w = omega arith
+
+-- word k of a row, from its flags: 64 pixels, or what is left of the row
+pub word-of-flags : (lo hi : ℕ) (grey : List ℕ) (from w k n : ℕ) → n ≡ min 64 (w - k * 64)
+    → word (flagAt lo hi grey (from + k * 64) n) ≡ outsideWord lo hi grey from w k
+unfolding outsideWord wordOf
+word-of-flags lo hi grey from w k n e =
+    word-ext (flagAt lo hi grey (from + k * 64) n) (λ i. gate (ltb (k * 64 + i) w) (outsideBit lo hi (getD grey (from + (k * 64 + i)) 0))) same
+  where
+    same : (i : ℕ) → i < 64 → flagAt lo hi grey (from + k * 64) n i ≡ gate (ltb (k * 64 + i) w) (outsideBit lo hi (getD grey (from + (k * 64 + i)) 0))
+    same i l = ⊎-elim (λ (m : i < n). inside m) (λ (m : n ≤ i). past m) (order i n)
+      where
+        inside : i < n → flagAt lo hi grey (from + k * 64) n i ≡ gate (ltb (k * 64 + i) w) (outsideBit lo hi (getD grey (from + (k * 64 + i)) 0))
+        inside m =
+            flag-in lo hi grey (from + k * 64) n i m
+            ∙ ap (λ (j : ℕ). outsideBit lo hi (getD grey j 0)) (add-assoc from (k * 64) i)
+            ∙ sym (ap (λ t. gate t (outsideBit lo hi (getD grey (from + (k * 64 + i)) 0))) (lt-ltb (k * 64 + i) w (omega arith)))
+
+        past : n ≤ i → flagAt lo hi grey (from + k * 64) n i ≡ gate (ltb (k * 64 + i) w) (outsideBit lo hi (getD grey (from + (k * 64 + i)) 0))
+        past m =
+            flag-past lo hi grey (from + k * 64) n i m
+            ∙ sym (ap (λ t. gate t (outsideBit lo hi (getD grey (from + (k * 64 + i)) 0))) (le-ltb (k * 64 + i) w (omega arith)))
+
+-- The row that begins at place y * w is row y of the frame: one row more of its words from place `to` on.
+pub frame-row : (lo hi w y : ℕ) (grey : List ℕ) (to place : ℕ) (before mid after : List ℕ) → place ≡ to + y * rowWords w
+    → FrameAt to (rowWords w) (wordOf w (outsidePlane lo hi w grey)) before y mid
+    → RowAt place (outsideWord lo hi grey (y * w) w) mid (rowWords w) after
+    → FrameAt to (rowWords w) (wordOf w (outsidePlane lo hi w grey)) before (y + 1) after
+unfolding outsideWord outsidePlane wordOf frameOf
+frame-row lo hi w y grey to place before mid after e a r =
+    frame-more to (rowWords w) (wordOf w (outsidePlane lo hi w grey)) before y mid after a (rw e at r)
+
+-- the place of row y of a bitmap, and its end
+pub row-place : (w h n y : ℕ) → n ≡ rowWords w → y < h → (y * n ≡ 0 + y * rowWords w) × (y * n + rowWords w ≤ rowWords w * h)
+row-place w h n y e l = rw e (omega (arith, row-fits (rowWords w) h y l))
+
+-- a whole bitmap written, by another plane with the same bits
+pub packed-plane : (w h : ℕ) (f g : Frame) (before after : List ℕ) → f ≡ g → rowWords w * h ≤ length before
+    → FrameAt 0 (rowWords w) (wordOf w g) before h after → after ≡ writtenOver (packed w h f) before
+unfolding packed
+packed-plane w h f g before after e room a =
+    frame-written (rowWords w) h (wordOf w g) before after room a ∙ ap (λ (p : Frame). writtenOver (packed w h p) before) (sym e)

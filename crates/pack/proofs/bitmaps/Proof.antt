@@ -1,0 +1,76 @@
+use mathlib.Core.Path.{_≡_, refl, sym, ap₂, _∙_}
+use Prim.Native.Nat.{ℕ, _<_}
+use lib.ListN.{getD}
+use Rattle.rules.proofs.RefusalLaws.{bitmaps-ok, written-refused, lent-refused}
+use Rattle.pack.specs.Outside.{outsidePlane}
+use Rattle.pack.proofs.OutsideLaws.{threshold-plane, exclusion-plane, packed-plane}
+use native.Mathlib.Omega.{arith}
+use borrow.Author.Needs.{needs}
+use Rattle.pack.proofs.bitmaps.Statement.{statement}
+use Rattle.pack.proofs.bitmaps.Tie as tie
+use Rattle.pack.proofs.bitmaps.Reads as reads
+use Rattle.pack.proofs.bitmaps.Lts as lts
+use Rattle.pack.proofs.frame.high_end.Reads as high-end-reads
+use Rattle.pack.proofs.frame.low_end.Reads as low-end-reads
+use Rattle.pack.proofs.frame.pack_frame.Reads as pack-frame-reads
+use Rattle.refusals.proofs.bitmaps_refusal.Reads as bitmaps-refusal-reads
+
+-- src/lib.rt:29:9
+bitmaps-refusal-requires : tie.Need-bitmaps-refusal-requires
+bitmaps-refusal-requires c κs = search needs
+
+-- src/lib.rt:31:9
+returns : tie.Need-returns
+returns c =
+    rw (← c .before .bitmaps-refusal .ensures)
+    (written-refused _ (c .if1 .taken), (lent-refused _ _ _ (c .if1 .taken), lent-refused _ _ _ (c .if1 .taken)))
+
+-- src/lib.rt:33:9
+low-end-requires : tie.Need-low-end-requires
+low-end-requires c κs = search needs
+
+-- src/lib.rt:34:9
+high-end-requires : tie.Need-high-end-requires
+high-end-requires c κs = search needs
+
+-- src/lib.rt:35:5
+pack-frame-requires : tie.Need-pack-frame-requires
+pack-frame-requires c κs =
+    let a = c .before .before .before .before .before .before .before .before .before .args in
+    let k = bitmaps-ok (a .w) (a .h) (a .tolerance) _ _ _ (sym (c .before .before .before .before .before .bitmaps-refusal .ensures) ∙ c .before .before .before .before .if1 .left) in
+    omega arith
+
+-- src/lib.rt:16:1
+same-length : tie.Need-same-length
+same-length c = search needs
+
+-- src/lib.rt:16:1
+same-length-2 : tie.Need-same-length-2
+same-length-2 c = search needs
+
+-- src/lib.rt:16:1
+returns-2 : tie.Need-returns-2
+returns-2 c =
+    let a = c .before .before .before .before .before .before .before .before .before .before .before .before .before .before .args in
+    let e = sym (c .before .before .before .before .before .before .before .before .before .before .bitmaps-refusal .ensures) ∙ c .before .before .before .before .before .before .before .before .before .if1 .left in
+    let k = bitmaps-ok (a .w) (a .h) (a .tolerance) _ _ _ e in
+    let ends = ap₂ (λ (lo hi : ℕ). outsidePlane lo hi (a .w) (a .grey .now)) (sym (c .before .before .before .before .before .before .before .before .low-end .ensures)) (sym (c .before .before .before .before .before .before .before .high-end .ensures)) in
+    let bytes : (i : ℕ) → getD (a .grey .now) i 0 < 256 = λ i. c .before .before .before .before .before .before .before .before .before .before .before .before .before .shared-slice-known .given i .fits in
+    let f = c .before .before .before .before .pack-frame in
+    rw e
+    (refl,
+    (packed-plane (a .w) (a .h) _ _ (a .thresholds .now) _ (threshold-plane (a .threshold) (a .w) (a .grey .now)) (k .room1) (f .ensures .0),
+    packed-plane (a .w) (a .h) _ _ (a .exclusions .now) _ (exclusion-plane (a .threshold) (a .tolerance) (a .w) (a .grey .now) bytes ∙ ends) (k .room2) (f .ensures .1)))
+
+pub bitmaps-spec : {M : Type 1} → statement M
+bitmaps-spec =
+    tie.close
+    (tie.spec
+    bitmaps-refusal-requires
+    returns
+    low-end-requires
+    high-end-requires
+    pack-frame-requires
+    same-length
+    same-length-2
+    returns-2)

@@ -1,0 +1,23 @@
+use mathlib.Core.List.{[], _∷_}
+use Prim.Native.Nat.{_<_}
+use lib.ListN.{getD}
+use Rattle.pack.proofs.GatherLaws.{eight, joined}
+use native.Mathlib.Omega.{arith}
+use borrow.Author.Needs.{needs}
+use Rattle.pack.proofs.gather.join.Statement.{statement}
+use Rattle.pack.proofs.gather.join.Tie as tie
+use Rattle.pack.proofs.gather.join.Reads as reads
+use Rattle.pack.proofs.gather.join.Lts as lts
+
+-- src/gather.rt:12:1
+returns : tie.Need-returns
+returns c =
+    let a = c .args in
+    joined (λ k. getD (a .a ∷ a .b ∷ a .c ∷ a .d ∷ a .e ∷ a .f ∷ a .g ∷ a .h ∷ []) k 0)
+    (eight (λ k v. v < 256) (a .a) (a .b) (a .c) (a .d) (a .e) (a .f) (a .g) (a .h)
+    (c .fits .a .fits) (c .fits .b .fits) (c .fits .c .fits) (c .fits .d .fits) (c .fits .e .fits) (c .fits .f .fits) (c .fits .g .fits) (c .fits .h .fits))
+    7
+    (omega arith)
+
+pub join-spec : {M : Type 1} → statement M
+join-spec = tie.close (tie.spec returns)

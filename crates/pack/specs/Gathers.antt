@@ -1,0 +1,17 @@
+-- Numbers known by their bytes, and exchanges of bits.
+use mathlib.Core.Path.{_≡_}
+use Prim.Native.Nat.{ℕ, _+_, _*_, _/_, _%_, _^_, _<_}
+use lib.Bits.{bitAnd, bitXor}
+use Rattle.rules.specs.Bitmaps.{bit}
+
+-- v has n bytes, and byte k is f k
+pub record Bytes (n : ℕ) (f : ℕ → ℕ) (v : ℕ) : Type 0 where
+  pub small : v < 2 ^ (8 * n)
+  pub bits : (k m : ℕ) → k < n → m < 8 → bit v (8 * k + m) ≡ bit (f k) m
+
+-- y with bits p and p + s exchanged where bit p of the mask is 1, as a machine does it
+abbrev pub exchangeBits : ℕ → ℕ → ℕ → ℕ
+exchangeBits mask s y = bitAnd (bitXor y (y / 2 ^ s)) mask
+
+unfoldable pub exchanged : ℕ → ℕ → ℕ → ℕ
+exchanged mask s y = bitXor (bitXor y (exchangeBits mask s y)) (exchangeBits mask s y * 2 ^ s % 2 ^ 64)

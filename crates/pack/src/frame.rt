@@ -1,0 +1,56 @@
+// Both bitmaps of a grey frame.
+
+use crate::rows::pack_row;
+
+ghost use mathlib.Core.Path.{_≡_};
+ghost use Prim.Native.Nat.{_+_, _*_, _-_, _≤_, min};
+ghost use lib.ListN.{length};
+ghost use Rattle.rules.specs.Bitmaps.{rowWords, wordOf};
+ghost use Rattle.rules.proofs.FrameLaws.{FrameAt};
+ghost use Rattle.pack.specs.Outside.{outsidePlane};
+
+// The least grey value within the tolerance of a threshold.
+pub fn low_end(threshold: u8, tolerance: u32) -> u8
+    ensures { λ r. ⌜ r ≡ threshold - tolerance ⌝ }
+{
+    if tolerance < threshold as u32 {
+        return threshold - tolerance as u8;
+    }
+    0
+}
+
+// The greatest.
+pub fn high_end(threshold: u8, tolerance: u32) -> u8
+    ensures { λ r. ⌜ r ≡ min 255 (threshold + tolerance) ⌝ }
+{
+    if tolerance < 255 - threshold as u32 {
+        return threshold + tolerance as u8;
+    }
+    255
+}
+
+// A row is packed into both bitmaps while it is in the cache.
+pub fn pack_frame(
+    w: usize,
+    h: usize,
+    threshold: u8,
+    lo: u8,
+    hi: u8,
+    grey: &[u8],
+    thresholds: &mut [u64],
+    exclusions: &mut [u64],
+)
+    requires { ⌜ (length (now grey) ≡ w * h) × (rowWords w * h ≤ length (now thresholds)) × (rowWords w * h ≤ length (now exclusions)) ⌝ }
+    ensures { λ _. ⌜ FrameAt 0 (rowWords w) (wordOf w (outsidePlane 0 threshold w (now (grey .entry)))) (now (thresholds .entry)) h (now (thresholds .exit)) ⌝ }
+    ensures { λ _. ⌜ FrameAt 0 (rowWords w) (wordOf w (outsidePlane lo hi w (now (grey .entry)))) (now (exclusions .entry)) h (now (exclusions .exit)) ⌝ }
+{
+    let n = refusals::row_words(w);
+    let mut y: usize = 0;
+    while y < h {
+        let from = y * w;
+        let to = y * n;
+        pack_row(grey, from, w, 0, threshold, thresholds, to);
+        pack_row(grey, from, w, lo, hi, exclusions, to);
+        y += 1;
+    }
+}

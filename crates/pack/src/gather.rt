@@ -1,0 +1,68 @@
+// 64 flags, each 0 or 1, gathered into a word with no step for a single flag: eight words of eight
+// flags are laid over each other, which makes the word's 8 by 8 bits the flags' by columns, and three
+// exchanges of bits turn columns into rows.
+
+ghost use mathlib.Core.Path.{_≡_};
+ghost use mathlib.Core.List.{[], _∷_};
+ghost use Prim.Native.Nat.{ℕ, _+_, _≤_, _<_};
+ghost use lib.ListN.{getD};
+ghost use Rattle.rules.specs.Bitmaps.{word};
+ghost use Rattle.pack.specs.Gathers.{Bytes, exchanged};
+
+// The word of eight bytes, the lowest first. (With `|` and `<<` the compiler sees one load.)
+fn join(a: u8, b: u8, c: u8, d: u8, e: u8, f: u8, g: u8, h: u8) -> u64
+    ensures { λ r. ⌜ Bytes 8 (λ k. getD (a ∷ b ∷ c ∷ d ∷ e ∷ f ∷ g ∷ h ∷ []) k 0) r ⌝ }
+{
+    a as u64
+        | ((b as u64) << 8)
+        | ((c as u64) << 16)
+        | ((d as u64) << 24)
+        | ((e as u64) << 32)
+        | ((f as u64) << 40)
+        | ((g as u64) << 48)
+        | ((h as u64) << 56)
+}
+
+// The word of the eight flags from place `at` on, one a byte.
+fn eight_flags(flags: &[u8; 64], at: usize) -> u64
+    requires { ⌜ at + 8 ≤ 64 ⌝ }
+    ensures { λ r. ⌜ Bytes 8 (λ k. getD (now (flags .entry)) (at + k) 0) r ⌝ }
+{
+    join(
+        flags[at],
+        flags[at + 1],
+        flags[at + 2],
+        flags[at + 3],
+        flags[at + 4],
+        flags[at + 5],
+        flags[at + 6],
+        flags[at + 7],
+    )
+}
+
+// Where bit p of the mask is 1, bits p and p + s of y exchanged.
+fn exchange(mask: u64, s: u32, y: u64) -> u64
+    requires { ⌜ s < 64 ⌝ }
+    ensures { λ r. ⌜ r ≡ exchanged mask s y ⌝ }
+{
+    let t = (y ^ (y >> s)) & mask;
+    y ^ t ^ (t << s)
+}
+
+// The word whose bit i is flag i.
+pub fn gather_word(flags: &[u8; 64]) -> u64
+    requires { ⌜ ((i : ℕ) → i < 64 → getD (now flags) i 0 < 2) ⌝ }
+    ensures { λ r. ⌜ r ≡ word (λ i. getD (now (flags .entry)) i 0) ⌝ }
+{
+    let columns = eight_flags(flags, 0)
+        | (eight_flags(flags, 8) << 1)
+        | (eight_flags(flags, 16) << 2)
+        | (eight_flags(flags, 24) << 3)
+        | (eight_flags(flags, 32) << 4)
+        | (eight_flags(flags, 40) << 5)
+        | (eight_flags(flags, 48) << 6)
+        | (eight_flags(flags, 56) << 7);
+    let near = exchange(0x00AA_00AA_00AA_00AA, 7, columns);
+    let far = exchange(0x0000_CCCC_0000_CCCC, 14, near);
+    exchange(0x0000_0000_F0F0_F0F0, 28, far)
+}

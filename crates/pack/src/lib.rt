@@ -1,0 +1,37 @@
+// Packing of a grey frame into its threshold bitmap and its exclusion bitmap.
+
+use frame::{high_end, low_end, pack_frame};
+use rules::Written;
+
+mod frame;
+mod gather;
+mod outside;
+pub mod rows;
+
+ghost use mathlib.Core.Path.{_≡_};
+ghost use Rattle.rules.specs.Answers.{written};
+ghost use Rattle.rules.specs.Calls.{bitmapsNumber, thresholdsOut, exclusionsOut};
+
+// The threshold and the exclusion bitmap of a grey frame for a threshold and a tolerance.
+pub fn bitmaps(
+    w: usize,
+    h: usize,
+    threshold: u8,
+    tolerance: u32,
+    grey: &[u8],
+    thresholds: &mut [u64],
+    exclusions: &mut [u64],
+) -> Written
+    ensures answer { λ r. ⌜ r ≡ written (bitmapsNumber w h tolerance (now (grey .entry)) (now (thresholds .entry)) (now (exclusions .entry))) ⌝ }
+    ensures thresholds { λ _. ⌜ now (thresholds .exit) ≡ thresholdsOut w h threshold tolerance (now (grey .entry)) (now (thresholds .entry)) (now (exclusions .entry)) ⌝ }
+    ensures exclusions { λ _. ⌜ now (exclusions .exit) ≡ exclusionsOut w h threshold tolerance (now (grey .entry)) (now (thresholds .entry)) (now (exclusions .entry)) ⌝ }
+{
+    let n = refusals::bitmaps_refusal(w, h, tolerance, grey.len(), thresholds.len(), exclusions.len());
+    if n != 0 {
+        return Written::Refused(n);
+    }
+    let lo = low_end(threshold, tolerance);
+    let hi = high_end(threshold, tolerance);
+    pack_frame(w, h, threshold, lo, hi, grey, thresholds, exclusions);
+    Written::Done
+}
