@@ -1,0 +1,3 @@
+-- Laws of counting over packed words.
+pub mod Table
+pub mod OnesLaws

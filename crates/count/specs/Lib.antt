@@ -1,0 +1,2 @@
+-- Definitions that the cores' contracts cite.
+pub mod Ones

@@ -1,0 +1,2 @@
+// Counts over packed bitmaps.
+pub mod ones;
