@@ -1,3 +1,5 @@
 -- Laws of counting over packed words.
 pub mod Table
 pub mod OnesLaws
+pub mod RowLaws
+pub mod DifferLaws

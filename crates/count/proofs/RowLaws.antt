@@ -1,0 +1,83 @@
+-- Sums over a row's pixels, word by word, and over a frame's rows.
+use mathlib.Core.Path.{_≡_, refl, sym, ap, _∙_}
+use mathlib.Core.Bool.{Bool}
+use mathlib.Core.List.{List}
+use Prim.Native.Nat.{ℕ, _+_, _*_, _-_, _/_, _%_, _≤_, _<_}
+use native.Mathlib.Nat.{add-zero}
+use native.Mathlib.Omega.{arith}
+use lib.Dec.{ltb}
+use lib.ListN.{getD}
+use Rattle.rules.specs.Sums.{gate, sum, rowSum}
+use Rattle.rules.specs.Frames.{Frame}
+use Rattle.rules.specs.Bitmaps.{bit, bitAt, rowWords}
+use Rattle.rules.proofs.SumLaws.{gate-le, sum-ext, sum-zero, sum-le, sum-more, sum-split}
+use Rattle.words.specs.Rows.{rowBit}
+use Rattle.words.proofs.BitLaws.{bit-lt, bit-zero}
+use Rattle.words.proofs.MoveLaws.{gate-lt, row-bit, row-past, bitAt-row}
+use Rattle.count.specs.Rows.{WordOf, Adds}
+
+-- one word more of a row
+pub word-more : (f : ℕ → ℕ) (k v : ℕ) → WordOf f k v → Adds f k (k + 1) (sum 64 (bit v))
+word-more f k v e =
+    ap (λ (s : ℕ). sum (k * 64) f + s) (sum-ext 64 (bit v) (λ i. f (k * 64 + i)) e)
+    ∙ sym (sum-split (k * 64) 64 f)
+    ∙ ap (λ (n : ℕ). sum n f) (let a : k * 64 + 64 ≡ (k + 1) * 64 = omega arith in a)
+
+-- a word that adds nothing
+pub word-none : (f : ℕ → ℕ) (k : ℕ) → WordOf f k 0 → Adds f k (k + 1) 0
+word-none f k e = let a = word-more f k 0 e in let z = sum-zero 64 (bit 0) (λ i l. bit-zero i) in omega arith
+
+-- nothing is added past the last pixel
+pub sum-stop : (m n : ℕ) (f : ℕ → ℕ) → m ≤ n → ((i : ℕ) → m ≤ i → f i ≡ 0) → sum n f ≡ sum m f
+sum-stop m n f l e =
+    let d : n ≡ m + (n - m) = omega arith in
+    ap (λ (k : ℕ). sum k f) d
+    ∙ sum-split m (n - m) f
+    ∙ ap (λ (s : ℕ). sum m f + s) (sum-zero (n - m) (λ i. f (m + i)) (λ i k. e (m + i) (omega arith)))
+    ∙ add-zero (sum m f)
+
+-- a row's words make up its pixels
+pub row-whole : (f : ℕ → ℕ) (w count : ℕ) → ((x : ℕ) → w ≤ x → f x ≡ 0) → Adds f 0 (rowWords w) count → count ≡ sum w f
+unfolding rowWords sum
+row-whole f w count e a = a ∙ sum-stop w (rowWords w * 64) f (omega arith) e
+
+-- sums of bits are small
+pub bits-le : (n : ℕ) (f : ℕ → ℕ) → ((i : ℕ) → f i < 2) → sum n f ≤ n
+bits-le n f b = let a = sum-le n 1 f (λ i l. let c = b i in omega arith) in omega arith
+
+pub rows-le : (w y : ℕ) (f : Frame) → w ≤ 4096 → ((x z : ℕ) → f x z < 2) → sum y (rowSum w f) ≤ y * 4096
+rows-le w y f l b = sum-le y 4096 (rowSum w f) (λ z k. let a = bits-le w (λ x. f x z) (λ x. b x z) in omega arith)
+
+-- a row of a bitmap
+pub rowBit-lt : (words : List ℕ) (base w x : ℕ) → rowBit words base w x < 2
+unfolding rowBit
+rowBit-lt words base w x =
+    let a = gate-le (ltb x w) (bit (getD words (base + x / 64) 0) (x % 64)) in
+    let b = bit-lt (getD words (base + x / 64) 0) (x % 64) in
+    omega arith
+
+pub bitAt-in : (w h : ℕ) (words : List ℕ) (x y : ℕ) → y < h → bitAt w h words x y ≡ rowBit words (y * rowWords w) w x
+bitAt-in w h words x y l = bitAt-row w h words x y ∙ gate-lt y h (rowBit words (y * rowWords w) w x) l
+
+pub bitAt-lt : (w h : ℕ) (words : List ℕ) (x y : ℕ) → bitAt w h words x y < 2
+bitAt-lt w h words x y =
+    let a = gate-le (ltb y h) (rowBit words (y * rowWords w) w x) in
+    let b = rowBit-lt words (y * rowWords w) w x in
+    let c = bitAt-row w h words x y in
+    omega arith
+
+-- a full word of a row as it stands
+pub full-word : (words : List ℕ) (base w k : ℕ) → (k + 1) * 64 ≤ w → WordOf (rowBit words base w) k (getD words (base + k) 0)
+full-word words base w k l i m = sym (row-bit words base w k i (omega arith) m)
+
+-- the last word of a row
+pub row-end : (words : List ℕ) (base w : ℕ) → (x : ℕ) → w ≤ x → rowBit words base w x ≡ 0
+row-end words base w x l = row-past words base w x l
+
+-- one row more of a total
+pub total-more : (w h y count : ℕ) (words : List ℕ) → y < h → count ≡ sum w (rowBit words (y * rowWords w) w)
+    → sum y (rowSum w (bitAt w h words)) + count ≡ sum (y + 1) (rowSum w (bitAt w h words))
+total-more w h y count words l e =
+    ap (λ (s : ℕ). sum y (rowSum w (bitAt w h words)) + s)
+    (e ∙ sum-ext w (rowBit words (y * rowWords w) w) (λ x. bitAt w h words x y) (λ x k. sym (bitAt-in w h words x y l)))
+    ∙ sym (sum-more y (rowSum w (bitAt w h words)))
