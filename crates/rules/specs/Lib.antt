@@ -10,3 +10,6 @@ pub mod Differences
 pub mod Refusals
 pub mod Answers
 pub mod Calls
+pub mod Levels
+pub mod Series
+pub mod Examples
