@@ -17,10 +17,10 @@ use Rattle.rules.specs.Planes.{within}
 use Rattle.rules.specs.Differences.{Planes, differAt}
 use Rattle.rules.specs.Calls.{planesOf}
 use Rattle.rules.proofs.SumLaws.{order, gate-le, sum-ext, sum-zero, sum-more}
-use Rattle.words.specs.Rows.{rowBit, back, bias, biasWords, biasOf}
+use Rattle.words.specs.Rows.{WordOf, rowBit, back, bias, biasWords, biasOf}
 use Rattle.words.proofs.BitLaws.{bit-lt, bit-and, bit-or, bit-xor, bit-shr, bit-above, bit-zero, bit-shl64-high, bit-shl64-low}
 use Rattle.words.proofs.MoveLaws.{gate-lt, gate-ge, row-bit, row-past, bitAt-row, back-at, back-under, within-back}
-use Rattle.count.specs.Rows.{WordOf, Adds, disagree, movedBit, rowDiffer, Interior}
+use Rattle.count.specs.Rows.{Adds, disagree, movedBit, rowDiffer, Interior}
 use Rattle.count.proofs.RowLaws.{word-more, word-none, rowBit-lt, bitAt-in}
 
 -- ---- the four bits of a pixel
@@ -43,25 +43,30 @@ disagree-right t1 e1 t2 = out (eqb e1 1)
     out false = refl
 
 -- exclusive-or first, exclusion after it
-masked-disagree : (t1 e1 t2 e2 : ℕ) → t1 < 2 → e1 < 2 → t2 < 2 → e2 < 2 → min (differ t1 t2) (min e1 e2) ≡ disagree t1 e1 t2 e2
+data Bit : ℕ → Type 0 where
+  off : Bit 0
+  on : Bit 1
+
+bit-case : (n : ℕ) → n < 2 → Bit n
+bit-case zero l = off
+bit-case (suc zero) l = on
+bit-case (suc (suc n)) l = absurd (omega arith)
+
+masked-disagree : {t1 e1 t2 e2 : ℕ} → Bit t1 → Bit e1 → Bit t2 → Bit e2 → min (differ t1 t2) (min e1 e2) ≡ disagree t1 e1 t2 e2
 unfolding disagree
-masked-disagree zero zero zero zero a b c d = refl
-masked-disagree zero zero zero (suc zero) a b c d = refl
-masked-disagree zero zero (suc zero) zero a b c d = refl
-masked-disagree zero zero (suc zero) (suc zero) a b c d = refl
-masked-disagree zero (suc zero) zero zero a b c d = refl
-masked-disagree zero (suc zero) zero (suc zero) a b c d = refl
-masked-disagree zero (suc zero) (suc zero) zero a b c d = refl
-masked-disagree zero (suc zero) (suc zero) (suc zero) a b c d = refl
-masked-disagree (suc zero) zero zero zero a b c d = refl
-masked-disagree (suc zero) zero zero (suc zero) a b c d = refl
-masked-disagree (suc zero) zero (suc zero) zero a b c d = refl
-masked-disagree (suc zero) zero (suc zero) (suc zero) a b c d = refl
-masked-disagree (suc zero) (suc zero) zero zero a b c d = refl
-masked-disagree (suc zero) (suc zero) zero (suc zero) a b c d = refl
-masked-disagree (suc zero) (suc zero) (suc zero) zero a b c d = refl
-masked-disagree (suc zero) (suc zero) (suc zero) (suc zero) a b c d = refl
-masked-disagree (suc (suc t1)) e1 t2 e2 a b c d = absurd (omega arith)
-masked-disagree t1 (suc (suc e1)) t2 e2 a b c d = absurd (omega arith)
-masked-disagree t1 e1 (suc (suc t2)) e2 a b c d = absurd (omega arith)
-masked-disagree t1 e1 t2 (suc (suc e2)) a b c d = absurd (omega arith)
+masked-disagree off off off off = refl
+masked-disagree off off off on = refl
+masked-disagree off off on off = refl
+masked-disagree off off on on = refl
+masked-disagree off on off off = refl
+masked-disagree off on off on = refl
+masked-disagree off on on off = refl
+masked-disagree off on on on = refl
+masked-disagree on off off off = refl
+masked-disagree on off off on = refl
+masked-disagree on off on off = refl
+masked-disagree on off on on = refl
+masked-disagree on on off off = refl
+masked-disagree on on off on = refl
+masked-disagree on on on off = refl
+masked-disagree on on on on = refl

@@ -1,20 +1,21 @@
 -- Sums over a row's pixels, word by word, and over a frame's rows.
-use mathlib.Core.Path.{_≡_, refl, sym, ap, _∙_}
-use mathlib.Core.Bool.{Bool}
+use mathlib.Core.Path.{_≡_, sym, ap, ap₂, _∙_}
 use mathlib.Core.List.{List}
 use Prim.Native.Nat.{ℕ, _+_, _*_, _-_, _/_, _%_, _≤_, _<_}
 use native.Mathlib.Nat.{add-zero}
 use native.Mathlib.Omega.{arith}
 use lib.Dec.{ltb}
 use lib.ListN.{getD}
-use Rattle.rules.specs.Sums.{gate, sum, rowSum}
+use Rattle.rules.specs.Sums.{sum, rowSum, sumPixels}
 use Rattle.rules.specs.Frames.{Frame}
+use Rattle.rules.specs.Planes.{total}
 use Rattle.rules.specs.Bitmaps.{bit, bitAt, rowWords}
 use Rattle.rules.proofs.SumLaws.{gate-le, sum-ext, sum-zero, sum-le, sum-more, sum-split}
-use Rattle.words.specs.Rows.{rowBit}
+use Rattle.rules.proofs.FrameLaws.{row-fits}
+use Rattle.words.specs.Rows.{WordOf, rowBit}
 use Rattle.words.proofs.BitLaws.{bit-lt, bit-zero}
 use Rattle.words.proofs.MoveLaws.{gate-lt, row-bit, row-past, bitAt-row}
-use Rattle.count.specs.Rows.{WordOf, Adds}
+use Rattle.count.specs.Rows.{Adds}
 
 -- one word more of a row
 pub word-more : (f : ℕ → ℕ) (k v : ℕ) → WordOf f k v → Adds f k (k + 1) (sum 64 (bit v))
@@ -22,6 +23,10 @@ word-more f k v e =
     ap (λ (s : ℕ). sum (k * 64) f + s) (sum-ext 64 (bit v) (λ i. f (k * 64 + i)) e)
     ∙ sym (sum-split (k * 64) 64 f)
     ∙ ap (λ (n : ℕ). sum n f) (let a : k * 64 + 64 ≡ (k + 1) * 64 = omega arith in a)
+
+pub word-next : (f : ℕ → ℕ) (first k count v ones : ℕ) → Adds f first k count → WordOf f k v → ones ≡ sum 64 (bit v)
+    → Adds f first (k + 1) (count + ones)
+word-next f first k count v ones a d e = let b = word-more f k v d in omega arith
 
 -- a word that adds nothing
 pub word-none : (f : ℕ → ℕ) (k : ℕ) → WordOf f k 0 → Adds f k (k + 1) 0
@@ -39,14 +44,32 @@ sum-stop m n f l e =
 -- a row's words make up its pixels
 pub row-whole : (f : ℕ → ℕ) (w count : ℕ) → ((x : ℕ) → w ≤ x → f x ≡ 0) → Adds f 0 (rowWords w) count → count ≡ sum w f
 unfolding rowWords sum
-row-whole f w count e a = a ∙ sum-stop w (rowWords w * 64) f (omega arith) e
+row-whole f w count e a = let b = sum-stop w (rowWords w * 64) f (omega arith) e in omega arith
 
 -- sums of bits are small
 pub bits-le : (n : ℕ) (f : ℕ → ℕ) → ((i : ℕ) → f i < 2) → sum n f ≤ n
 bits-le n f b = let a = sum-le n 1 f (λ i l. let c = b i in omega arith) in omega arith
 
+pub ones-le : (v : ℕ) → sum 64 (bit v) ≤ 64
+ones-le v = bits-le 64 (bit v) (bit-lt v)
+
+pub adds-le : (f : ℕ → ℕ) (first end count : ℕ) → ((i : ℕ) → f i < 2) → Adds f first end count → count ≤ end * 64
+adds-le f first end count b a = let c = bits-le (end * 64) f b in omega arith
+
 pub rows-le : (w y : ℕ) (f : Frame) → w ≤ 4096 → ((x z : ℕ) → f x z < 2) → sum y (rowSum w f) ≤ y * 4096
 rows-le w y f l b = sum-le y 4096 (rowSum w f) (λ z k. let a = bits-le w (λ x. f x z) (λ x. b x z) in omega arith)
+
+-- a row of words
+pub row-words-le : (w : ℕ) → w ≤ 4096 → rowWords w ≤ 64
+unfolding rowWords
+row-words-le w l = omega arith
+
+pub row-words-some : (w : ℕ) → 0 < w → 1 ≤ rowWords w
+unfolding rowWords
+row-words-some w l = omega arith
+
+pub row-room : (n w h y room : ℕ) → n ≡ rowWords w → rowWords w * h ≤ room → y < h → y * n + rowWords w ≤ room
+row-room n w h y room e r l = let a = row-fits (rowWords w) h y l in let b = ap (λ (m : ℕ). y * m) e in omega arith
 
 -- a row of a bitmap
 pub rowBit-lt : (words : List ℕ) (base w x : ℕ) → rowBit words base w x < 2
@@ -67,17 +90,28 @@ bitAt-lt w h words x y =
     omega arith
 
 -- a full word of a row as it stands
-pub full-word : (words : List ℕ) (base w k : ℕ) → (k + 1) * 64 ≤ w → WordOf (rowBit words base w) k (getD words (base + k) 0)
+pub full-word : (words : List ℕ) (base w k : ℕ) → k + 2 ≤ rowWords w → WordOf (rowBit words base w) k (getD words (base + k) 0)
+unfolding rowWords
 full-word words base w k l i m = sym (row-bit words base w k i (omega arith) m)
 
--- the last word of a row
-pub row-end : (words : List ℕ) (base w : ℕ) → (x : ℕ) → w ≤ x → rowBit words base w x ≡ 0
-row-end words base w x l = row-past words base w x l
+-- a row of which the last word is still to come
+pub row-last : (words : List ℕ) (base w last k count v ones : ℕ) → last + 1 ≡ rowWords w → k ≡ last
+    → Adds (rowBit words base w) 0 k count → WordOf (rowBit words base w) last v → ones ≡ sum 64 (bit v)
+    → count + ones ≡ sum w (rowBit words base w)
+row-last words base w last k count v ones n e a d o =
+    let f : ℕ → ℕ = rowBit words base w in
+    row-whole f w (count + ones) (row-past words base w) (rw n at (word-next f 0 last count v ones (rw e at a) d o))
 
 -- one row more of a total
-pub total-more : (w h y count : ℕ) (words : List ℕ) → y < h → count ≡ sum w (rowBit words (y * rowWords w) w)
-    → sum y (rowSum w (bitAt w h words)) + count ≡ sum (y + 1) (rowSum w (bitAt w h words))
-total-more w h y count words l e =
-    ap (λ (s : ℕ). sum y (rowSum w (bitAt w h words)) + s)
-    (e ∙ sum-ext w (rowBit words (y * rowWords w) w) (λ x. bitAt w h words x y) (λ x k. sym (bitAt-in w h words x y l)))
+pub total-more : (w h y count ones : ℕ) (words : List ℕ) (base : ℕ) → y < h → base ≡ y * rowWords w
+    → count ≡ sum y (rowSum w (bitAt w h words)) → ones ≡ sum w (rowBit words base w)
+    → count + ones ≡ sum (y + 1) (rowSum w (bitAt w h words))
+total-more w h y count ones words base l b a e =
+    ap₂ (λ (m n : ℕ). m + n) a
+    (e ∙ sum-ext w (rowBit words base w) (λ x. bitAt w h words x y)
+    (λ x k. ap (λ (z : ℕ). rowBit words z w x) b ∙ sym (bitAt-in w h words x y l)))
     ∙ sym (sum-more y (rowSum w (bitAt w h words)))
+
+pub total-whole : (w h count : ℕ) (words : List ℕ) → count ≡ sum h (rowSum w (bitAt w h words)) → count ≡ total w h (bitAt w h words)
+unfolding total sumPixels
+total-whole w h count words e = e

@@ -2,19 +2,15 @@
 use mathlib.Core.Path.{_≡_}
 use mathlib.Core.Bool.{_&&_, not}
 use mathlib.Core.List.{List}
-use Prim.Native.Nat.{ℕ, _+_, _*_, _≤_, _<_}
+use Prim.Native.Nat.{ℕ, _+_, _*_, _≤_}
 use lib.Dec.{eqb}
+use Rattle.rules.specs.Limits.{wordBits}
 use Rattle.rules.specs.Sums.{oneIf, sum}
-use Rattle.rules.specs.Bitmaps.{bit}
 use Rattle.words.specs.Rows.{rowBit, back, bias, biasWords}
-
--- v is word k of a row whose pixel x is f x
-abbrev pub WordOf : (ℕ → ℕ) → ℕ → ℕ → Type 0
-WordOf f k v = (i : ℕ) → i < 64 → bit v i ≡ f (k * 64 + i)
 
 -- count is what the words from `first` up to `end` add to the sum of f over a row's pixels
 abbrev pub Adds : (ℕ → ℕ) → ℕ → ℕ → ℕ → Type 0
-Adds f first end count = sum (first * 64) f + count ≡ sum (end * 64) f
+Adds f first end count = sum (first * wordBits) f + count ≡ sum (end * wordBits) f
 
 -- 1 where both exclusion bits are 1 and the threshold bits are unequal
 unfoldable pub disagree : ℕ → ℕ → ℕ → ℕ → ℕ

@@ -1,2 +1,4 @@
-// Counts over packed bitmaps.
+// Counts over packed bitmaps: a bitmap's total, and the difference count of two frames.
+
 pub mod ones;
+pub mod totals;
