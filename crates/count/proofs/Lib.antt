@@ -3,3 +3,4 @@ pub mod Table
 pub mod OnesLaws
 pub mod RowLaws
 pub mod DifferLaws
+pub mod AnswerLaws
