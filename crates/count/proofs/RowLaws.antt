@@ -1,5 +1,5 @@
 -- Sums over a row's pixels, word by word, and over a frame's rows.
-use mathlib.Core.Path.{_≡_, sym, ap, ap₂, _∙_}
+use mathlib.Core.Path.{_≡_, refl, sym, ap, _∙_}
 use mathlib.Core.List.{List}
 use Prim.Native.Nat.{ℕ, _+_, _*_, _-_, _/_, _%_, _≤_, _<_}
 use native.Mathlib.Nat.{add-zero}
@@ -7,7 +7,6 @@ use native.Mathlib.Omega.{arith}
 use lib.Dec.{ltb}
 use lib.ListN.{getD}
 use Rattle.rules.specs.Sums.{sum, rowSum, sumPixels}
-use Rattle.rules.specs.Frames.{Frame}
 use Rattle.rules.specs.Planes.{total}
 use Rattle.rules.specs.Bitmaps.{bit, bitAt, rowWords}
 use Rattle.rules.proofs.SumLaws.{gate-le, sum-ext, sum-zero, sum-le, sum-more, sum-split}
@@ -56,8 +55,8 @@ ones-le v = bits-le 64 (bit v) (bit-lt v)
 pub adds-le : (f : ℕ → ℕ) (first end count : ℕ) → ((i : ℕ) → f i < 2) → Adds f first end count → count ≤ end * 64
 adds-le f first end count b a = let c = bits-le (end * 64) f b in omega arith
 
-pub rows-le : (w y : ℕ) (f : Frame) → w ≤ 4096 → ((x z : ℕ) → f x z < 2) → sum y (rowSum w f) ≤ y * 4096
-rows-le w y f l b = sum-le y 4096 (rowSum w f) (λ z k. let a = bits-le w (λ x. f x z) (λ x. b x z) in omega arith)
+pub rows-le : (f : ℕ → ℕ) (y : ℕ) → ((z : ℕ) → f z ≤ 4096) → sum y f ≤ y * 4096
+rows-le f y b = sum-le y 4096 f (λ z l. b z)
 
 -- a row of words
 pub row-words-le : (w : ℕ) → w ≤ 4096 → rowWords w ≤ 64
@@ -89,6 +88,9 @@ bitAt-lt w h words x y =
     let c = bitAt-row w h words x y in
     omega arith
 
+pub total-row-le : (w h y : ℕ) (words : List ℕ) → w ≤ 4096 → rowSum w (bitAt w h words) y ≤ 4096
+total-row-le w h y words l = let a = bits-le w (λ x. bitAt w h words x y) (λ x. bitAt-lt w h words x y) in omega arith
+
 -- a full word of a row as it stands
 pub full-word : (words : List ℕ) (base w k : ℕ) → k + 2 ≤ rowWords w → WordOf (rowBit words base w) k (getD words (base + k) 0)
 unfolding rowWords
@@ -102,16 +104,16 @@ row-last words base w last k count v ones n e a d o =
     let f : ℕ → ℕ = rowBit words base w in
     row-whole f w (count + ones) (row-past words base w) (rw n at (word-next f 0 last count v ones (rw e at a) d o))
 
--- one row more of a total
-pub total-more : (w h y count ones : ℕ) (words : List ℕ) (base : ℕ) → y < h → base ≡ y * rowWords w
-    → count ≡ sum y (rowSum w (bitAt w h words)) → ones ≡ sum w (rowBit words base w)
-    → count + ones ≡ sum (y + 1) (rowSum w (bitAt w h words))
-total-more w h y count ones words base l b a e =
-    ap₂ (λ (m n : ℕ). m + n) a
-    (e ∙ sum-ext w (rowBit words base w) (λ x. bitAt w h words x y)
-    (λ x k. ap (λ (z : ℕ). rowBit words z w x) b ∙ sym (bitAt-in w h words x y l)))
-    ∙ sym (sum-more y (rowSum w (bitAt w h words)))
+-- one row more of a frame
+pub rows-more : (f : ℕ → ℕ) (y count more : ℕ) → count ≡ sum y f → more ≡ f y → count + more ≡ sum (y + 1) f
+rows-more f y count more a e = let b = sum-more y f in omega arith
 
-pub total-whole : (w h count : ℕ) (words : List ℕ) → count ≡ sum h (rowSum w (bitAt w h words)) → count ≡ total w h (bitAt w h words)
+pub total-row : (w h y base : ℕ) (words : List ℕ) → y < h → base ≡ y * rowWords w
+    → sum w (rowBit words base w) ≡ rowSum w (bitAt w h words) y
+total-row w h y base words l b =
+    sum-ext w (rowBit words base w) (λ x. bitAt w h words x y)
+    (λ x k. ap (λ (z : ℕ). rowBit words z w x) b ∙ sym (bitAt-in w h words x y l))
+
+pub total-whole : (w h : ℕ) (words : List ℕ) → sum h (rowSum w (bitAt w h words)) ≡ total w h (bitAt w h words)
 unfolding total sumPixels
-total-whole w h count words e = e
+total-whole w h words = refl

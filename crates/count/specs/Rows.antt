@@ -2,15 +2,24 @@
 use mathlib.Core.Path.{_≡_}
 use mathlib.Core.Bool.{_&&_, not}
 use mathlib.Core.List.{List}
-use Prim.Native.Nat.{ℕ, _+_, _*_, _≤_}
-use lib.Dec.{eqb}
-use Rattle.rules.specs.Limits.{wordBits}
-use Rattle.rules.specs.Sums.{oneIf, sum}
+use Prim.Native.Nat.{ℕ, _+_, _*_, _-_, _≤_, _<_}
+use lib.Dec.{ltb, eqb}
+use lib.IntN.{ℤ}
+use Rattle.rules.specs.Limits.{maxSide, wordBits}
+use Rattle.rules.specs.Sums.{gate, oneIf, sum}
+use Rattle.rules.specs.Bitmaps.{bit, rowWords}
+use Rattle.rules.specs.Frames.{Frame}
+use Rattle.rules.specs.Differences.{differAt}
+use Rattle.rules.specs.Calls.{planesOf}
 use Rattle.words.specs.Rows.{rowBit, back, bias, biasWords}
 
 -- count is what the words from `first` up to `end` add to the sum of f over a row's pixels
 abbrev pub Adds : (ℕ → ℕ) → ℕ → ℕ → ℕ → Type 0
 Adds f first end count = sum (first * wordBits) f + count ≡ sum (end * wordBits) f
+
+-- pixel (x, y) of the first frame's bitmaps against its partner in the second's
+abbrev pub frameDiffer : ℕ → ℕ → ℤ → ℤ → List ℕ → List ℕ → List ℕ → List ℕ → Frame
+frameDiffer w h dx dy t1 e1 t2 e2 = differAt w h dx dy (planesOf w h t1 e1) (planesOf w h t2 e2)
 
 -- 1 where both exclusion bits are 1 and the threshold bits are unequal
 unfoldable pub disagree : ℕ → ℕ → ℕ → ℕ → ℕ
@@ -25,8 +34,29 @@ unfoldable pub rowDiffer : List ℕ → List ℕ → List ℕ → List ℕ → �
 rowDiffer t1 e1 t2 e2 base from w d x =
     disagree (rowBit t1 base w x) (rowBit e1 base w x) (movedBit t2 from w d x) (movedBit e2 from w d x)
 
+-- the difference of row y: its partner row is `up` rows back, counted from the bias, and may lie outside the frame
+unfoldable pub lineDiffer : List ℕ → List ℕ → List ℕ → List ℕ → ℕ → ℕ → ℕ → ℕ → ℕ → ℕ
+lineDiffer t1 e1 t2 e2 w h d up y =
+    back (λ z. gate (ltb z h) (sum w (rowDiffer t1 e1 t2 e2 (y * rowWords w) (z * rowWords w) w d))) up (bias + y)
+
 -- word k of a moved row of n words is made of two words of the row, and none of the three is the row's last
 pub record Interior (n q k : ℕ) : Type 0 where
   pub here : k + 2 ≤ n
   pub low : q + 1 ≤ k + biasWords
   pub high : k + biasWords + 2 ≤ q + n
+
+-- a move of rows of w pixels, in n words, by q words, counted from the bias, and r bits; the words from `first` up to `end` are interior
+pub record Moves (w n q r first end : ℕ) : Type 0 where
+  pub wide : 0 < w
+  pub width : w ≤ maxSide
+  pub row : n ≡ rowWords w
+  pub words : q ≤ 2 * biasWords
+  pub bits : r < wordBits
+  pub ordered : first ≤ end
+  pub ends : end ≤ n
+  pub inside : (k : ℕ) → first ≤ k → k < end → Interior n q k
+
+-- the bits of `high` moved up by r, below them the topmost r bits of `low`
+pub record Joined (high low r v : ℕ) : Type 0 where
+  pub above : (i : ℕ) → r ≤ i → i < wordBits → bit v i ≡ bit high (i - r)
+  pub below : (i : ℕ) → i < r → bit v i ≡ bit low (wordBits - r + i)

@@ -1,4 +1,4 @@
-use mathlib.Core.Path.{_≡_, sym, ap}
+use mathlib.Core.Path.{_≡_, sym, ap, _∙_}
 use Prim.Native.Nat.{ℕ, _≤_, _+_, _*_, _-_}
 use native.Mathlib.Omega.{arith}
 use borrow.Author.Needs.{needs}
@@ -7,7 +7,7 @@ use Rattle.rules.specs.Sums.{sum, rowSum}
 use Rattle.rules.specs.Bitmaps.{bitAt}
 use Rattle.rules.proofs.SumLaws.{sum-none}
 use Rattle.words.specs.Rows.{rowBit}
-use Rattle.count.proofs.RowLaws.{row-words-some, row-room, rows-le, bits-le, bitAt-lt, rowBit-lt, total-more, total-whole}
+use Rattle.count.proofs.RowLaws.{row-words-some, row-room, rows-le, rows-more, bits-le, rowBit-lt, total-row, total-row-le, total-whole}
 use Rattle.count.proofs.totals.total_frame.Statement.{statement}
 use Rattle.count.proofs.totals.total_frame.Tie as tie
 use Rattle.count.proofs.totals.total_frame.Reads as reads
@@ -56,8 +56,9 @@ add-count c =
     let s = c .before .before .before .before .before in
     let a = s .args in
     let l = c .before .before .loop in
-    omega (arith, rows-le (a .w) (l .y) (bitAt (a .w) (a .h) (a .bitmap .now)) (s .pre .1 .0) (bitAt-lt (a .w) (a .h) (a .bitmap .now)),
-    bits-le (a .w) (rowBit (a .bitmap .now) (l .y * c .before .before .before .row-words .result) (a .w)) (rowBit-lt (a .bitmap .now) (l .y * c .before .before .before .row-words .result) (a .w)))
+    let b = l .y * c .before .before .before .row-words .result in
+    omega (arith, rows-le (rowSum (a .w) (bitAt (a .w) (a .h) (a .bitmap .now))) (l .y) (λ z. total-row-le (a .w) (a .h) z (a .bitmap .now) (s .pre .1 .0)),
+    bits-le (a .w) (rowBit (a .bitmap .now) b (a .w)) (rowBit-lt (a .bitmap .now) b (a .w)))
 
 -- src/totals.rt:48:9
 add-y : tie.Need-add-y Inv-loop μ-loop
@@ -73,8 +74,8 @@ loop-again c =
     let a = c .before .before .before .before .before .args in
     let l = c .before .before .loop in
     let n = c .before .before .before .row-words in
-    (omega arith, total-more (a .w) (a .h) (l .y) (l .count) (c .row-total .result) (a .bitmap .now) (l .y * n .result)
-    (omega arith) (ap (λ (m : ℕ). l .y * m) (n .ensures)) (l .inv .1) (c .row-total .ensures))
+    (omega arith, rows-more (rowSum (a .w) (bitAt (a .w) (a .h) (a .bitmap .now))) (l .y) (l .count) (c .row-total .result) (l .inv .1)
+    (c .row-total .ensures ∙ total-row (a .w) (a .h) (l .y) (l .y * n .result) (a .bitmap .now) (omega arith) (ap (λ (m : ℕ). l .y * m) (n .ensures))))
 
 -- src/totals.rt:35:1
 returns : tie.Need-returns Inv-loop μ-loop
@@ -82,7 +83,7 @@ returns c =
     let a = c .before .before .before .before .args in
     let l = c .before .loop in
     let e : l .y ≡ a .h = omega arith in
-    total-whole (a .w) (a .h) (l .count) (a .bitmap .now) (rw e at (l .inv .1))
+    rw e at (l .inv .1) ∙ total-whole (a .w) (a .h) (a .bitmap .now)
 
 pub total-frame-spec : {M : Type 1} → statement M
 total-frame-spec =
