@@ -4,6 +4,7 @@ use mathlib.Core.Bool.{Bool, true, false, _&&_, not}
 use mathlib.Core.Logic.{_⊎_, inl, inr, ⊎-elim}
 use mathlib.Core.List.{List}
 use Prim.Native.Nat.{ℕ, zero, suc, _+_, _*_, _-_, _/_, _%_, _^_, _≤_, _<_, min, max}
+use native.Mathlib.Nat.{mod-lt}
 use native.Mathlib.Omega.{arith}
 use lib.Dec.{ltb, leb, eqb}
 use lib.ListN.{getD}
@@ -20,8 +21,8 @@ use Rattle.rules.proofs.SumLaws.{order, gate-le, sum-ext, sum-zero, sum-more}
 use Rattle.words.specs.Rows.{WordOf, rowBit, back, bias, biasWords, biasOf}
 use Rattle.words.proofs.BitLaws.{bit-lt, bit-and, bit-or, bit-xor, bit-shr, bit-above, bit-zero, bit-shl64-high, bit-shl64-low}
 use Rattle.words.proofs.MoveLaws.{gate-lt, gate-ge, row-bit, row-past, bitAt-row, back-at, back-under, within-back}
-use Rattle.count.specs.Rows.{Adds, frameDiffer, disagree, movedBit, rowDiffer, lineDiffer, Joined, Interior}
-use Rattle.count.proofs.RowLaws.{word-more, word-none, full-word, bitAt-in, bits-le}
+use Rattle.count.specs.Rows.{Adds, frameDiffer, disagree, movedBit, rowDiffer, lineDiffer, Joined, Interior, Moves}
+use Rattle.count.proofs.RowLaws.{word-more, word-none, full-word, bitAt-in, bits-le, row-words-some}
 
 -- ---- the four bits of a pixel
 
@@ -131,7 +132,7 @@ moved-word words from w d k v a i l =
     a i l ∙ ap (λ (x : ℕ). back (rowBit words from w) d x) e
 
 -- a word whose bits from r on are those of one word, and below r the topmost of another
-pub joined-high : (high low r i : ℕ) → low < 2 ^ 64 → r < 64 → r ≤ i → i < 64
+joined-high : (high low r i : ℕ) → low < 2 ^ 64 → r < 64 → r ≤ i → i < 64
     → bit (bitOr (high * 2 ^ r % 2 ^ 64) (low / 2 ^ 1 / 2 ^ (63 - r))) i ≡ bit high (i - r)
 joined-high high low r i b l m n =
     let z : bit (low / 2 ^ 1 / 2 ^ (63 - r)) i ≡ 0 =
@@ -139,7 +140,7 @@ joined-high high low r i b l m n =
     let g : max (bit (high * 2 ^ r % 2 ^ 64) i) (bit (low / 2 ^ 1 / 2 ^ (63 - r)) i) ≡ bit (high * 2 ^ r % 2 ^ 64) i = omega arith in
     bit-or (high * 2 ^ r % 2 ^ 64) (low / 2 ^ 1 / 2 ^ (63 - r)) i ∙ g ∙ bit-shl64-high high r i m n
 
-pub joined-low : (high low r i : ℕ) → r < 64 → i < r
+joined-low : (high low r i : ℕ) → r < 64 → i < r
     → bit (bitOr (high * 2 ^ r % 2 ^ 64) (low / 2 ^ 1 / 2 ^ (63 - r))) i ≡ bit low (64 - r + i)
 joined-low high low r i l m =
     let z : bit (high * 2 ^ r % 2 ^ 64) i ≡ 0 = bit-shl64-low high r i m in
@@ -147,6 +148,33 @@ joined-low high low r i l m =
     let g : max (bit (high * 2 ^ r % 2 ^ 64) i) (bit (low / 2 ^ 1 / 2 ^ (63 - r)) i) ≡ bit (low / 2 ^ 1 / 2 ^ (63 - r)) i = omega arith in
     bit-or (high * 2 ^ r % 2 ^ 64) (low / 2 ^ 1 / 2 ^ (63 - r)) i ∙ g
     ∙ bit-shr (low / 2 ^ 1) (63 - r) i ∙ bit-shr low 1 (63 - r + i) ∙ ap (λ (j : ℕ). bit low j) s
+
+pub joined-is : (high low r : ℕ) → low < 2 ^ 64 → r < 64 → Joined high low r (bitOr (high * 2 ^ r % 2 ^ 64) (low / 2 ^ 1 / 2 ^ (63 - r)))
+joined-is high low r b l = record { above = λ i m n. joined-high high low r i b l m n; below = λ i m. joined-low high low r i l m }
+
+-- the interior of a moved row
+first-in : (q first end : ℕ) → first ≡ min end (max (q + 1) biasWords - biasWords) → (first ≤ end) × ((k : ℕ) → first ≤ k → k < end → q + 1 ≤ k + biasWords)
+first-in q first end e = (omega arith, λ k l m. omega arith)
+
+end-in : (n q end : ℕ) → 1 ≤ n → end ≡ min (n - 1) (max (q + n - 1) biasWords - biasWords)
+    → (end ≤ n) × ((k : ℕ) → k < end → (k + 2 ≤ n) × (k + biasWords + 2 ≤ q + n))
+end-in n q end l e = (omega arith, λ k m. (omega arith, omega arith))
+
+pub moves : (w d n first end : ℕ) → 0 < w → w ≤ 4096 → n ≡ rowWords w
+    → end ≡ min (n - 1) (max (d / 64 + n - 1) biasWords - biasWords) → first ≡ min end (max (d / 64 + 1) biasWords - biasWords)
+    → Moves w n (d / 64) (d % 64) first end
+moves w d n first end a b e f g =
+    let p = first-in (d / 64) first end g in
+    let q = end-in n (d / 64) end (rw (← e) at (row-words-some w a)) f in
+    record {
+      wide = a;
+      width = b;
+      row = e;
+      bits = mod-lt d (omega arith);
+      ordered = p .0;
+      ends = q .0;
+      inside = λ k l m. record { here = q .1 k m .0; low = p .1 k l m; high = q .1 k m .1 };
+    }
 
 -- an interior word of a moved row
 pub interior-word : (words : List ℕ) (from w q r k j v : ℕ) → r < 64 → Interior (rowWords w) q k → j ≡ from + k + biasWords - q

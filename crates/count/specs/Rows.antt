@@ -50,7 +50,6 @@ pub record Moves (w n q r first end : ℕ) : Type 0 where
   pub wide : 0 < w
   pub width : w ≤ maxSide
   pub row : n ≡ rowWords w
-  pub words : q ≤ 2 * biasWords
   pub bits : r < wordBits
   pub ordered : first ≤ end
   pub ends : end ≤ n

@@ -1,0 +1,136 @@
+// The difference count of two frames' packed bitmaps. The second frame's rows are moved word by word
+// on reading.
+
+use crate::ones::word_ones;
+use refusals::row_words;
+use words::biased;
+use words::moved_word;
+use words::row_word;
+
+ghost use mathlib.Core.Path.{_≡_};
+ghost use Prim.Native.Nat.{ℕ, _+_, _*_, _<_, _≤_, min, max};
+ghost use lib.ListN.{length};
+ghost use Rattle.rules.specs.Limits.{maxSide, wordBits};
+ghost use Rattle.rules.specs.Sums.{sum};
+ghost use Rattle.rules.specs.Bitmaps.{rowWords};
+ghost use Rattle.rules.specs.Differences.{difference};
+ghost use Rattle.rules.specs.Calls.{planesOf};
+ghost use Rattle.words.specs.Rows.{bias, biasWords};
+ghost use Rattle.count.specs.Ones.{CountsOnes};
+ghost use Rattle.count.specs.Rows.{Adds, rowDiffer, lineDiffer, Moves, Joined};
+
+const WORD_BITS: usize = 64;
+
+// 2^31: moves are counted from the least signed 32-bit number, so that none is negative.
+const BIAS: usize = 2147483648;
+
+// 2^31 / 64
+const BIAS_WORDS: usize = 33554432;
+
+// A move of rows of w pixels, in n words, by q words, counted from the bias, and r bits. A word from
+// `first` up to `end` is made of two words of the row, and none of the three is the row's last: it
+// needs no test and no mask.
+pub struct Move {
+    pub w: usize,
+    pub n: usize,
+    pub q: usize,
+    pub r: usize,
+    pub first: usize,
+    pub end: usize,
+}
+
+fn lower(a: usize, b: usize) -> usize
+    ensures { λ r. ⌜ r ≡ min a b ⌝ }
+{
+    if a < b { a } else { b }
+}
+
+fn upper(a: usize, b: usize) -> usize
+    ensures { λ r. ⌜ r ≡ max a b ⌝ }
+{
+    if a < b { b } else { a }
+}
+
+fn move_by(w: usize, d: usize) -> Move
+    requires wide { ⌜ 0 < w ⌝ }
+    requires width { ⌜ w ≤ maxSide ⌝ }
+    requires near { ⌜ d < 4294967296 ⌝ }
+    ensures { λ m. ⌜ (m .w ≡ w) × ((m .q * wordBits + m .r ≡ d) × Moves (m .w) (m .n) (m .q) (m .r) (m .first) (m .end)) ⌝ }
+{
+    let n = row_words(w);
+    let q = d / WORD_BITS;
+    let end = lower(n - 1, upper(q + n - 1, BIAS_WORDS) - BIAS_WORDS);
+    let first = lower(end, upper(q + 1, BIAS_WORDS) - BIAS_WORDS);
+    Move {
+        w,
+        n,
+        q,
+        r: d % WORD_BITS,
+        first,
+        end,
+    }
+}
+
+// The bits of `high` moved up by r, below them the topmost r bits of `low`. (Two steps, since a move
+// by 64 is none of the machine's.)
+fn joined(high: u64, low: u64, r: usize) -> u64
+    requires { ⌜ r < wordBits ⌝ }
+    ensures { λ v. ⌜ Joined high low r v ⌝ }
+{
+    (high << r) | ((low >> 1) >> (63 - r))
+}
+
+// One interior word. A word with no kept pixel is left before its threshold bits are read.
+fn interior_word(
+    t1: &[u64],
+    e1: &[u64],
+    t2: &[u64],
+    e2: &[u64],
+    base: usize,
+    from: usize,
+    m: Move,
+    k: usize,
+    ones: &[u8; 256],
+) -> u32
+    requires moves { ⌜ Moves (m .w) (m .n) (m .q) (m .r) (m .first) (m .end) ⌝ }
+    requires here { ⌜ (m .first ≤ k) × (k < m .end) ⌝ }
+    requires room1 { ⌜ (base + rowWords (m .w) ≤ length (now t1)) × (base + rowWords (m .w) ≤ length (now e1)) ⌝ }
+    requires room2 { ⌜ (from + rowWords (m .w) ≤ length (now t2)) × (from + rowWords (m .w) ≤ length (now e2)) ⌝ }
+    requires table { ⌜ CountsOnes (now ones) ⌝ }
+    ensures { λ r. ⌜ Adds (rowDiffer (now (t1 .entry)) (now (e1 .entry)) (now (t2 .entry)) (now (e2 .entry)) base from (m .w) (m .q * wordBits + m .r)) k (k + 1) r ⌝ }
+{
+    let i = base + k;
+    let j = from + k + BIAS_WORDS - m.q;
+    let kept = e1[i] & joined(e2[j], e2[j - 1], m.r);
+    if kept == 0 {
+        return 0;
+    }
+    word_ones((t1[i] ^ joined(t2[j], t2[j - 1], m.r)) & kept, ones)
+}
+
+// One word near a row's edge.
+fn careful_word(
+    t1: &[u64],
+    e1: &[u64],
+    t2: &[u64],
+    e2: &[u64],
+    base: usize,
+    from: usize,
+    m: Move,
+    k: usize,
+    ones: &[u8; 256],
+) -> u32
+    requires moves { ⌜ Moves (m .w) (m .n) (m .q) (m .r) (m .first) (m .end) ⌝ }
+    requires here { ⌜ k < m .n ⌝ }
+    requires room1 { ⌜ (base + rowWords (m .w) ≤ length (now t1)) × (base + rowWords (m .w) ≤ length (now e1)) ⌝ }
+    requires room2 { ⌜ (from + rowWords (m .w) ≤ length (now t2)) × (from + rowWords (m .w) ≤ length (now e2)) ⌝ }
+    requires table { ⌜ CountsOnes (now ones) ⌝ }
+    ensures { λ r. ⌜ Adds (rowDiffer (now (t1 .entry)) (now (e1 .entry)) (now (t2 .entry)) (now (e2 .entry)) base from (m .w) (m .q * wordBits + m .r)) k (k + 1) r ⌝ }
+{
+    let at = k + BIAS_WORDS;
+    let kept = row_word(e1, base, m.w, k) & moved_word(e2, from, m.w, at, m.q, m.r);
+    if kept == 0 {
+        return 0;
+    }
+    word_ones((t1[base + k] ^ moved_word(t2, from, m.w, at, m.q, m.r)) & kept, ones)
+}
