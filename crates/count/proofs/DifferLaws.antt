@@ -18,6 +18,7 @@ use Rattle.rules.specs.Planes.{within}
 use Rattle.rules.specs.Differences.{differ as differPixels, differAt, difference}
 use Rattle.rules.specs.Calls.{planesOf}
 use Rattle.rules.proofs.SumLaws.{order, gate-le, sum-ext, sum-zero, sum-more}
+use Rattle.count.specs.declared.differences.Move.{Move}
 use Rattle.words.specs.Rows.{WordOf, rowBit, back, bias, biasWords, biasOf}
 use Rattle.words.proofs.BitLaws.{bit-lt, bit-and, bit-or, bit-xor, bit-shr, bit-above, bit-zero, bit-shl64-high, bit-shl64-low}
 use Rattle.words.proofs.MoveLaws.{gate-lt, gate-ge, row-bit, row-past, bitAt-row, back-at, back-under, within-back}
@@ -88,20 +89,21 @@ mixed-bit t1 e1 t2 e2 i =
 
 -- A word of the difference of two rows, from the four rows' words.
 -- The first threshold word may have any bits past w: its exclusion word has none there.
-module _ (t1 e1 t2 e2 : List ℕ) (base from w d k : ℕ) where
-  pub differ-word : (u1 k1 u2 k2 : ℕ)
-      → ((i : ℕ) → i < 64 → k * 64 + i < w → bit u1 i ≡ rowBit t1 base w (k * 64 + i)) → WordOf (rowBit e1 base w) k k1
-      → WordOf (movedBit t2 from w d) k u2 → WordOf (movedBit e2 from w d) k k2
-      → WordOf (rowDiffer t1 e1 t2 e2 base from w d) k (bitAnd (bitXor u1 u2) (bitAnd k1 k2))
+module _ (t1 e1 t2 e2 : List ℕ) (base from w d k k1 k2 : ℕ) (b : WordOf (rowBit e1 base w) k k1) (e : WordOf (movedBit e2 from w d) k k2) where
+  differ-word : (u2 : ℕ) → WordOf (movedBit t2 from w d) k u2
+      → WordOf (rowDiffer t1 e1 t2 e2 base from w d) k (bitAnd (bitXor (getD t1 (base + k) 0) u2) (bitAnd k1 k2))
   unfolding rowDiffer
-  differ-word u1 k1 u2 k2 a b c e i l = mixed-bit u1 k1 u2 k2 i ∙ ⊎-elim inside past (order (k * 64 + i) w)
+  differ-word u2 c i l = mixed-bit u1 k1 u2 k2 i ∙ ⊎-elim inside past (order x w)
     where
+      u1 : ℕ
+      u1 = getD t1 (base + k) 0
+
       x : ℕ
       x = k * 64 + i
 
       inside : x < w → disagree (bit u1 i) (bit k1 i) (bit u2 i) (bit k2 i)
           ≡ disagree (rowBit t1 base w x) (rowBit e1 base w x) (movedBit t2 from w d x) (movedBit e2 from w d x)
-      inside m = λ j. disagree (a i l m j) (b i l j) (c i l j) (e i l j)
+      inside m = λ j. disagree (sym (row-bit t1 base w k i m l) j) (b i l j) (c i l j) (e i l j)
 
       past : w ≤ x → disagree (bit u1 i) (bit k1 i) (bit u2 i) (bit k2 i)
           ≡ disagree (rowBit t1 base w x) (rowBit e1 base w x) (movedBit t2 from w d x) (movedBit e2 from w d x)
@@ -112,16 +114,25 @@ module _ (t1 e1 t2 e2 : List ℕ) (base from w d k : ℕ) where
           ∙ sym (ap (λ (n : ℕ). disagree (rowBit t1 base w x) n (movedBit t2 from w d x) (movedBit e2 from w d x)) z
           ∙ disagree-left (rowBit t1 base w x) (movedBit t2 from w d x) (movedBit e2 from w d x))
 
+  pub differ-adds : (u2 ones : ℕ) → WordOf (movedBit t2 from w d) k u2
+      → ones ≡ sum 64 (bit (bitAnd (bitXor (getD t1 (base + k) 0) u2) (bitAnd k1 k2)))
+      → Adds (rowDiffer t1 e1 t2 e2 base from w d) k (k + 1) ones
+  differ-adds u2 ones c o =
+      let a = word-more (rowDiffer t1 e1 t2 e2 base from w d) k (bitAnd (bitXor (getD t1 (base + k) 0) u2) (bitAnd k1 k2)) (differ-word u2 c) in
+      omega arith
+
   -- a word of which no pixel is kept
-  pub differ-none : (k1 k2 : ℕ) → WordOf (rowBit e1 base w) k k1 → WordOf (movedBit e2 from w d) k k2 → bitAnd k1 k2 ≡ 0
-      → WordOf (rowDiffer t1 e1 t2 e2 base from w d) k 0
+  none-kept : bitAnd k1 k2 ≡ 0 → WordOf (rowDiffer t1 e1 t2 e2 base from w d) k 0
   unfolding rowDiffer
-  differ-none k1 k2 b e z i l =
+  none-kept z i l =
       let x : ℕ = k * 64 + i in
       let m : min (bit k1 i) (bit k2 i) ≡ 0 = sym (bit-and k1 k2 i) ∙ ap (λ (v : ℕ). bit v i) z ∙ bit-zero i in
       bit-zero i
       ∙ sym (excluded (rowBit t1 base w x) (movedBit t2 from w d x) (bit-case (bit k1 i) (bit-lt k1 i)) (bit-case (bit k2 i) (bit-lt k2 i)) m)
       ∙ (λ j. disagree (rowBit t1 base w x) (b i l j) (movedBit t2 from w d x) (e i l j))
+
+  pub none-adds : bitAnd k1 k2 ≡ 0 → Adds (rowDiffer t1 e1 t2 e2 base from w d) k (k + 1) 0
+  none-adds z = word-none (rowDiffer t1 e1 t2 e2 base from w d) k (none-kept z)
 
 -- ---- words of a moved row
 
@@ -160,20 +171,20 @@ end-in : (n q end : ℕ) → 1 ≤ n → end ≡ min (n - 1) (max (q + n - 1) bi
     → (end ≤ n) × ((k : ℕ) → k < end → (k + 2 ≤ n) × (k + biasWords + 2 ≤ q + n))
 end-in n q end l e = (omega arith, λ k m. (omega arith, omega arith))
 
-pub moves : (w d n first end : ℕ) → 0 < w → w ≤ 4096 → n ≡ rowWords w
-    → end ≡ min (n - 1) (max (d / 64 + n - 1) biasWords - biasWords) → first ≡ min end (max (d / 64 + 1) biasWords - biasWords)
-    → Moves w n (d / 64) (d % 64) first end
-moves w d n first end a b e f g =
-    let p = first-in (d / 64) first end g in
-    let q = end-in n (d / 64) end (rw (← e) at (row-words-some w a)) f in
+pub moves : (m : Move) (d : ℕ) → 0 < m .w → m .w ≤ 4096 → m .n ≡ rowWords (m .w) → m .q ≡ d / 64 → m .r ≡ d % 64
+    → m .end ≡ min (m .n - 1) (max (m .q + m .n - 1) biasWords - biasWords) → m .first ≡ min (m .end) (max (m .q + 1) biasWords - biasWords)
+    → Moves m
+moves m d a b e q r f g =
+    let s = first-in (m .q) (m .first) (m .end) g in
+    let t = end-in (m .n) (m .q) (m .end) (rw (← e) at (row-words-some (m .w) a)) f in
     record {
       wide = a;
       width = b;
       row = e;
-      bits = mod-lt d (omega arith);
-      ordered = p .0;
-      ends = q .0;
-      inside = λ k l m. record { here = q .1 k m .0; low = p .1 k l m; high = q .1 k m .1 };
+      bits = rw r (mod-lt d (omega arith));
+      ordered = s .0;
+      ends = t .0;
+      inside = λ k l n. record { here = t .1 k n .0; low = s .1 k l n; high = t .1 k n .1 };
     }
 
 -- an interior word of a moved row

@@ -4,6 +4,7 @@ use mathlib.Core.Bool.{_&&_, not}
 use mathlib.Core.List.{List}
 use Prim.Native.Nat.{ℕ, _+_, _*_, _-_, _≤_, _<_}
 use lib.Dec.{ltb, eqb}
+use lib.ListN.{length}
 use lib.IntN.{ℤ}
 use Rattle.rules.specs.Limits.{maxSide, wordBits}
 use Rattle.rules.specs.Sums.{gate, oneIf, sum}
@@ -11,6 +12,7 @@ use Rattle.rules.specs.Bitmaps.{bit, rowWords}
 use Rattle.rules.specs.Frames.{Frame}
 use Rattle.rules.specs.Differences.{differAt}
 use Rattle.rules.specs.Calls.{planesOf}
+use Rattle.count.specs.declared.differences.Move.{Move}
 use Rattle.words.specs.Rows.{rowBit, back, bias, biasWords}
 
 -- count is what the words from `first` up to `end` add to the sum of f over a row's pixels
@@ -45,15 +47,26 @@ pub record Interior (n q k : ℕ) : Type 0 where
   pub low : q + 1 ≤ k + biasWords
   pub high : k + biasWords + 2 ≤ q + n
 
--- a move of rows of w pixels, in n words, by q words, counted from the bias, and r bits; the words from `first` up to `end` are interior
-pub record Moves (w n q r first end : ℕ) : Type 0 where
-  pub wide : 0 < w
-  pub width : w ≤ maxSide
-  pub row : n ≡ rowWords w
-  pub bits : r < wordBits
-  pub ordered : first ≤ end
-  pub ends : end ≤ n
-  pub inside : (k : ℕ) → first ≤ k → k < end → Interior n q k
+-- a move as `differences` works it out: its words from `first` up to `end` are interior
+pub record Moves (m : Move) : Type 0 where
+  pub wide : 0 < m .w
+  pub width : m .w ≤ maxSide
+  pub row : m .n ≡ rowWords (m .w)
+  pub bits : m .r < wordBits
+  pub ordered : m .first ≤ m .end
+  pub ends : m .end ≤ m .n
+  pub inside : (k : ℕ) → m .first ≤ k → k < m .end → Interior (m .n) (m .q) k
+
+-- the row at `base` of the first frame against the row at `from` of the second, moved
+abbrev pub movedDiffer : List ℕ → List ℕ → List ℕ → List ℕ → ℕ → ℕ → Move → ℕ → ℕ
+movedDiffer t1 e1 t2 e2 base from m = rowDiffer t1 e1 t2 e2 base from (m .w) (m .q * wordBits + m .r)
+
+-- the two rows lie in the four bitmaps
+pub record RowsIn (t1 e1 t2 e2 : List ℕ) (base from w : ℕ) : Type 0 where
+  pub threshold1 : base + rowWords w ≤ length t1
+  pub exclusion1 : base + rowWords w ≤ length e1
+  pub threshold2 : from + rowWords w ≤ length t2
+  pub exclusion2 : from + rowWords w ≤ length e2
 
 -- the bits of `high` moved up by r, below them the topmost r bits of `low`
 pub record Joined (high low r v : ℕ) : Type 0 where

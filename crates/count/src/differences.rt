@@ -8,8 +8,8 @@ use words::moved_word;
 use words::row_word;
 
 ghost use mathlib.Core.Path.{_≡_};
-ghost use Prim.Native.Nat.{ℕ, _+_, _*_, _<_, _≤_, min, max};
-ghost use lib.ListN.{length};
+ghost use Prim.Native.Nat.{ℕ, _+_, _*_, _-_, _<_, _≤_, min, max};
+ghost use lib.ListN.{length, getD};
 ghost use Rattle.rules.specs.Limits.{maxSide, wordBits};
 ghost use Rattle.rules.specs.Sums.{sum};
 ghost use Rattle.rules.specs.Bitmaps.{rowWords};
@@ -17,7 +17,7 @@ ghost use Rattle.rules.specs.Differences.{difference};
 ghost use Rattle.rules.specs.Calls.{planesOf};
 ghost use Rattle.words.specs.Rows.{bias, biasWords};
 ghost use Rattle.count.specs.Ones.{CountsOnes};
-ghost use Rattle.count.specs.Rows.{Adds, rowDiffer, lineDiffer, Moves, Joined};
+ghost use Rattle.count.specs.Rows.{Adds, movedDiffer, lineDiffer, Moves, RowsIn, Joined};
 
 const WORD_BITS: usize = 64;
 
@@ -55,7 +55,7 @@ fn move_by(w: usize, d: usize) -> Move
     requires wide { ⌜ 0 < w ⌝ }
     requires width { ⌜ w ≤ maxSide ⌝ }
     requires near { ⌜ d < 4294967296 ⌝ }
-    ensures { λ m. ⌜ (m .w ≡ w) × ((m .q * wordBits + m .r ≡ d) × Moves (m .w) (m .n) (m .q) (m .r) (m .first) (m .end)) ⌝ }
+    ensures { λ m. ⌜ (m .w ≡ w) × ((m .q * wordBits + m .r ≡ d) × Moves m) ⌝ }
 {
     let n = row_words(w);
     let q = d / WORD_BITS;
@@ -71,13 +71,14 @@ fn move_by(w: usize, d: usize) -> Move
     }
 }
 
-// The bits of `high` moved up by r, below them the topmost r bits of `low`. (Two steps, since a move
-// by 64 is none of the machine's.)
-fn joined(high: u64, low: u64, r: usize) -> u64
-    requires { ⌜ r < wordBits ⌝ }
-    ensures { λ v. ⌜ Joined high low r v ⌝ }
+// The bits of word j moved up by r, below them the topmost r bits of the word before it. (Two steps
+// down, since the machine moves by less than 64.)
+fn joined_word(src: &[u64], j: usize, r: usize) -> u64
+    requires bits { ⌜ r < wordBits ⌝ }
+    requires here { ⌜ (1 ≤ j) × (j < length (now src)) ⌝ }
+    ensures { λ v. ⌜ Joined (getD (now (src .entry)) j 0) (getD (now (src .entry)) (j - 1) 0) r v ⌝ }
 {
-    (high << r) | ((low >> 1) >> (63 - r))
+    (src[j] << r) | ((src[j - 1] >> 1) >> (63 - r))
 }
 
 // One interior word. A word with no kept pixel is left before its threshold bits are read.
@@ -92,20 +93,19 @@ fn interior_word(
     k: usize,
     ones: &[u8; 256],
 ) -> u32
-    requires moves { ⌜ Moves (m .w) (m .n) (m .q) (m .r) (m .first) (m .end) ⌝ }
+    requires moves { ⌜ Moves m ⌝ }
     requires here { ⌜ (m .first ≤ k) × (k < m .end) ⌝ }
-    requires room1 { ⌜ (base + rowWords (m .w) ≤ length (now t1)) × (base + rowWords (m .w) ≤ length (now e1)) ⌝ }
-    requires room2 { ⌜ (from + rowWords (m .w) ≤ length (now t2)) × (from + rowWords (m .w) ≤ length (now e2)) ⌝ }
+    requires rows { ⌜ RowsIn (now t1) (now e1) (now t2) (now e2) base from (m .w) ⌝ }
     requires table { ⌜ CountsOnes (now ones) ⌝ }
-    ensures { λ r. ⌜ Adds (rowDiffer (now (t1 .entry)) (now (e1 .entry)) (now (t2 .entry)) (now (e2 .entry)) base from (m .w) (m .q * wordBits + m .r)) k (k + 1) r ⌝ }
+    ensures { λ r. ⌜ Adds (movedDiffer (now (t1 .entry)) (now (e1 .entry)) (now (t2 .entry)) (now (e2 .entry)) base from m) k (k + 1) r ⌝ }
 {
     let i = base + k;
     let j = from + k + BIAS_WORDS - m.q;
-    let kept = e1[i] & joined(e2[j], e2[j - 1], m.r);
+    let kept = e1[i] & joined_word(e2, j, m.r);
     if kept == 0 {
         return 0;
     }
-    word_ones((t1[i] ^ joined(t2[j], t2[j - 1], m.r)) & kept, ones)
+    word_ones((t1[i] ^ joined_word(t2, j, m.r)) & kept, ones)
 }
 
 // One word near a row's edge.
@@ -120,12 +120,11 @@ fn careful_word(
     k: usize,
     ones: &[u8; 256],
 ) -> u32
-    requires moves { ⌜ Moves (m .w) (m .n) (m .q) (m .r) (m .first) (m .end) ⌝ }
+    requires moves { ⌜ Moves m ⌝ }
     requires here { ⌜ k < m .n ⌝ }
-    requires room1 { ⌜ (base + rowWords (m .w) ≤ length (now t1)) × (base + rowWords (m .w) ≤ length (now e1)) ⌝ }
-    requires room2 { ⌜ (from + rowWords (m .w) ≤ length (now t2)) × (from + rowWords (m .w) ≤ length (now e2)) ⌝ }
+    requires rows { ⌜ RowsIn (now t1) (now e1) (now t2) (now e2) base from (m .w) ⌝ }
     requires table { ⌜ CountsOnes (now ones) ⌝ }
-    ensures { λ r. ⌜ Adds (rowDiffer (now (t1 .entry)) (now (e1 .entry)) (now (t2 .entry)) (now (e2 .entry)) base from (m .w) (m .q * wordBits + m .r)) k (k + 1) r ⌝ }
+    ensures { λ r. ⌜ Adds (movedDiffer (now (t1 .entry)) (now (e1 .entry)) (now (t2 .entry)) (now (e2 .entry)) base from m) k (k + 1) r ⌝ }
 {
     let at = k + BIAS_WORDS;
     let kept = row_word(e1, base, m.w, k) & moved_word(e2, from, m.w, at, m.q, m.r);

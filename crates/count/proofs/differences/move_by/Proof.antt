@@ -1,4 +1,5 @@
 use mathlib.Core.Path.{refl}
+use Prim.Native.Nat.{_/_, _%_}
 use native.Mathlib.Omega.{arith}
 use borrow.Author.Needs.{needs}
 use Rattle.count.proofs.RowLaws.{row-words-le, row-words-some}
@@ -61,7 +62,9 @@ returns c =
     let s = c .before .before .before .before .before in
     let n = c .before .before .before .before .row-words in
     let e = c .before .before .lower in
-    (refl, (omega arith, moves (s .args .w) (s .args .d) (n .result) (c .lower2 .result) (e .result) (s .pre .0) (s .pre .1 .0) (n .ensures)
+    (refl, (omega arith, moves
+    (record { w = s .args .w; n = n .result; q = s .args .d / 64; r = s .args .d % 64; first = c .lower2 .result; end = e .result })
+    (s .args .d) (s .pre .0) (s .pre .1 .0) (n .ensures) refl refl
     (rw (c .before .before .before .upper .ensures) at (e .ensures)) (rw (c .before .upper2 .ensures) at (c .lower2 .ensures))))
 
 pub move-by-spec : {M : Type 1} → statement M
