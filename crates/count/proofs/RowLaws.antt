@@ -23,9 +23,15 @@ word-more f k v e =
     ∙ sym (sum-split (k * 64) 64 f)
     ∙ ap (λ (n : ℕ). sum n f) (let a : k * 64 + 64 ≡ (k + 1) * 64 = omega arith in a)
 
+pub adds-none : (f : ℕ → ℕ) (first : ℕ) → Adds f first first 0
+adds-none f first = add-zero (sum (first * 64) f)
+
+pub adds-more : (f : ℕ → ℕ) (first k end count more : ℕ) → Adds f first k count → Adds f k end more → Adds f first end (count + more)
+adds-more f first k end count more a b = omega arith
+
 pub word-next : (f : ℕ → ℕ) (first k count v ones : ℕ) → Adds f first k count → WordOf f k v → ones ≡ sum 64 (bit v)
     → Adds f first (k + 1) (count + ones)
-word-next f first k count v ones a d e = let b = word-more f k v d in omega arith
+word-next f first k count v ones a d e = adds-more f first k (k + 1) count ones a (rw (← e) at (word-more f k v d))
 
 -- a word that adds nothing
 pub word-none : (f : ℕ → ℕ) (k : ℕ) → WordOf f k 0 → Adds f k (k + 1) 0
@@ -95,6 +101,12 @@ total-row-le w h y words l = let a = bits-le w (λ x. bitAt w h words x y) (λ x
 pub full-word : (words : List ℕ) (base w k : ℕ) → k + 2 ≤ rowWords w → WordOf (rowBit words base w) k (getD words (base + k) 0)
 unfolding rowWords
 full-word words base w k l i m = sym (row-bit words base w k i (omega arith) m)
+
+-- a row in three parts
+pub row-parts : (f : ℕ → ℕ) (w n first end a b c : ℕ) → n ≡ rowWords w → ((x : ℕ) → w ≤ x → f x ≡ 0)
+    → Adds f 0 first a → Adds f first end b → Adds f end n c → a + b + c ≡ sum w f
+row-parts f w n first end a b c e z p q r =
+    row-whole f w (a + b + c) z (rw e at (adds-more f 0 end n (a + b) c (adds-more f 0 first end a b p q) r))
 
 -- a row of which the last word is still to come
 pub row-last : (words : List ℕ) (base w last k count v ones : ℕ) → last + 1 ≡ rowWords w → k ≡ last

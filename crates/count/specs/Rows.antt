@@ -68,6 +68,13 @@ pub record RowsIn (t1 e1 t2 e2 : List ℕ) (base from w : ℕ) : Type 0 where
   pub threshold2 : from + rowWords w ≤ length t2
   pub exclusion2 : from + rowWords w ≤ length e2
 
+-- the two frames lie in the four bitmaps
+pub record FramesIn (t1 e1 t2 e2 : List ℕ) (w h : ℕ) : Type 0 where
+  pub threshold1 : rowWords w * h ≤ length t1
+  pub exclusion1 : rowWords w * h ≤ length e1
+  pub threshold2 : rowWords w * h ≤ length t2
+  pub exclusion2 : rowWords w * h ≤ length e2
+
 -- the bits of `high` moved up by r, below them the topmost r bits of `low`
 pub record Joined (high low r v : ℕ) : Type 0 where
   pub above : (i : ℕ) → r ≤ i → i < wordBits → bit v i ≡ bit high (i - r)

@@ -17,7 +17,7 @@ ghost use Rattle.rules.specs.Differences.{difference};
 ghost use Rattle.rules.specs.Calls.{planesOf};
 ghost use Rattle.words.specs.Rows.{bias, biasWords};
 ghost use Rattle.count.specs.Ones.{CountsOnes};
-ghost use Rattle.count.specs.Rows.{Adds, movedDiffer, lineDiffer, Moves, RowsIn, Joined};
+ghost use Rattle.count.specs.Rows.{Adds, movedDiffer, lineDiffer, Moves, RowsIn, FramesIn, Joined};
 
 const WORD_BITS: usize = 64;
 
@@ -132,4 +132,139 @@ fn careful_word(
         return 0;
     }
     word_ones((t1[base + k] ^ moved_word(t2, from, m.w, at, m.q, m.r)) & kept, ones)
+}
+
+// A row's interior words.
+fn interior(
+    t1: &[u64],
+    e1: &[u64],
+    t2: &[u64],
+    e2: &[u64],
+    base: usize,
+    from: usize,
+    m: Move,
+    ones: &[u8; 256],
+) -> u32
+    requires moves { ⌜ Moves m ⌝ }
+    requires rows { ⌜ RowsIn (now t1) (now e1) (now t2) (now e2) base from (m .w) ⌝ }
+    requires table { ⌜ CountsOnes (now ones) ⌝ }
+    ensures { λ r. ⌜ Adds (movedDiffer (now (t1 .entry)) (now (e1 .entry)) (now (t2 .entry)) (now (e2 .entry)) base from m) (m .first) (m .end) r ⌝ }
+{
+    let mut count: u32 = 0;
+    let mut k = m.first;
+    let end = m.end;
+    while k < end {
+        count += interior_word(t1, e1, t2, e2, base, from, m, k, ones);
+        k += 1;
+    }
+    count
+}
+
+// The words of a row from `first` up to `end`.
+fn careful(
+    t1: &[u64],
+    e1: &[u64],
+    t2: &[u64],
+    e2: &[u64],
+    base: usize,
+    from: usize,
+    m: Move,
+    first: usize,
+    end: usize,
+    ones: &[u8; 256],
+) -> u32
+    requires moves { ⌜ Moves m ⌝ }
+    requires span { ⌜ (first ≤ end) × (end ≤ m .n) ⌝ }
+    requires rows { ⌜ RowsIn (now t1) (now e1) (now t2) (now e2) base from (m .w) ⌝ }
+    requires table { ⌜ CountsOnes (now ones) ⌝ }
+    ensures { λ r. ⌜ Adds (movedDiffer (now (t1 .entry)) (now (e1 .entry)) (now (t2 .entry)) (now (e2 .entry)) base from m) first end r ⌝ }
+{
+    let mut count: u32 = 0;
+    let mut k = first;
+    while k < end {
+        count += careful_word(t1, e1, t2, e2, base, from, m, k, ones);
+        k += 1;
+    }
+    count
+}
+
+// The row at `base` against the moved row at `from`.
+fn row_difference(
+    t1: &[u64],
+    e1: &[u64],
+    t2: &[u64],
+    e2: &[u64],
+    base: usize,
+    from: usize,
+    m: Move,
+    ones: &[u8; 256],
+) -> u32
+    requires moves { ⌜ Moves m ⌝ }
+    requires rows { ⌜ RowsIn (now t1) (now e1) (now t2) (now e2) base from (m .w) ⌝ }
+    requires table { ⌜ CountsOnes (now ones) ⌝ }
+    ensures { λ r. ⌜ r ≡ sum (m .w) (movedDiffer (now (t1 .entry)) (now (e1 .entry)) (now (t2 .entry)) (now (e2 .entry)) base from m) ⌝ }
+{
+    careful(t1, e1, t2, e2, base, from, m, 0, m.first, ones)
+        + interior(t1, e1, t2, e2, base, from, m, ones)
+        + careful(t1, e1, t2, e2, base, from, m, m.end, m.n, ones)
+}
+
+// Row y of the frame. Its partner row is `up` rows back, counted from the bias; a row whose partner
+// lies outside the frame has no difference.
+fn line_difference(
+    t1: &[u64],
+    e1: &[u64],
+    t2: &[u64],
+    e2: &[u64],
+    h: usize,
+    y: usize,
+    up: usize,
+    m: Move,
+    ones: &[u8; 256],
+) -> u32
+    requires moves { ⌜ Moves m ⌝ }
+    requires here { ⌜ (y < h) × (h ≤ maxSide) ⌝ }
+    requires frames { ⌜ FramesIn (now t1) (now e1) (now t2) (now e2) (m .w) h ⌝ }
+    requires table { ⌜ CountsOnes (now ones) ⌝ }
+    ensures { λ r. ⌜ r ≡ lineDiffer (now (t1 .entry)) (now (e1 .entry)) (now (t2 .entry)) (now (e2 .entry)) (m .w) h (m .q * wordBits + m .r) up y ⌝ }
+{
+    let at = y + BIAS;
+    if at < up {
+        return 0;
+    }
+    let z = at - up;
+    if h <= z {
+        return 0;
+    }
+    row_difference(t1, e1, t2, e2, y * m.n, z * m.n, m, ones)
+}
+
+// Of two frames of w by h pixels. The table of counts is lent, so that a caller that counts often takes
+// it once.
+pub fn difference_frame(
+    w: usize,
+    h: usize,
+    dx: i32,
+    dy: i32,
+    t1: &[u64],
+    e1: &[u64],
+    t2: &[u64],
+    e2: &[u64],
+    ones: &[u8; 256],
+) -> u32
+    requires width { ⌜ (0 < w) × (w ≤ maxSide) ⌝ }
+    requires height { ⌜ h ≤ maxSide ⌝ }
+    requires frames { ⌜ FramesIn (now t1) (now e1) (now t2) (now e2) w h ⌝ }
+    requires table { ⌜ CountsOnes (now ones) ⌝ }
+    ensures { λ r. ⌜ r ≡ difference w h dx dy (planesOf w h (now (t1 .entry)) (now (e1 .entry))) (planesOf w h (now (t2 .entry)) (now (e2 .entry))) ⌝ }
+{
+    let m = move_by(w, biased(dx));
+    let up = biased(dy);
+    let mut count: u32 = 0;
+    let mut y: usize = 0;
+    while y < h {
+        count += line_difference(t1, e1, t2, e2, h, y, up, m, ones);
+        y += 1;
+    }
+    count
 }
