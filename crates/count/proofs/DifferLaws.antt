@@ -7,7 +7,7 @@ use Prim.Native.Nat.{ℕ, zero, suc, _+_, _*_, _-_, _/_, _%_, _^_, _≤_, _<_, m
 use native.Mathlib.Nat.{mod-lt}
 use native.Mathlib.Omega.{arith}
 use lib.Dec.{ltb, leb, eqb}
-use lib.ListN.{getD}
+use lib.ListN.{length, getD}
 use lib.IntN.{ℤ, pos, negsuc, _-ℤ_}
 use lib.Bits.{bitAnd, bitOr, bitXor, differ}
 use mir.Syntax.{w32}
@@ -22,8 +22,8 @@ use Rattle.count.specs.declared.differences.Move.{Move}
 use Rattle.words.specs.Rows.{WordOf, rowBit, back, bias, biasWords, biasOf}
 use Rattle.words.proofs.BitLaws.{bit-lt, bit-and, bit-or, bit-xor, bit-shr, bit-above, bit-zero, bit-shl64-high, bit-shl64-low}
 use Rattle.words.proofs.MoveLaws.{gate-lt, gate-ge, row-bit, row-past, bitAt-row, back-at, back-under, within-back}
-use Rattle.count.specs.Rows.{Adds, frameDiffer, disagree, movedBit, rowDiffer, lineDiffer, Joined, Interior, Moves}
-use Rattle.count.proofs.RowLaws.{word-more, word-none, full-word, bitAt-in, bits-le, row-words-some}
+use Rattle.count.specs.Rows.{Adds, frameDiffer, disagree, movedBit, rowDiffer, lineDiffer, Joined, Interior, Moves, RowsIn, FramesIn}
+use Rattle.count.proofs.RowLaws.{word-more, word-none, full-word, bitAt-in, bits-le, row-words-some, row-room}
 
 -- ---- the four bits of a pixel
 
@@ -331,6 +331,16 @@ module _ (w h : ℕ) (dx dy : ℤ) (t1 e1 t2 e2 : List ℕ) (bx : SFits w32 dx) 
   pub frame-is : sum h (lineDiffer t1 e1 t2 e2 w h (biasOf dx) (biasOf dy)) ≡ difference w h dx dy (planesOf w h t1 e1) (planesOf w h t2 e2)
   unfolding difference sumPixels
   frame-is = sum-ext h (lineDiffer t1 e1 t2 e2 w h (biasOf dx) (biasOf dy)) (rowSum w (frameDiffer w h dx dy t1 e1 t2 e2)) line-is
+
+-- two rows of the frames
+pub rows-in : (t1 e1 t2 e2 : List ℕ) (w h n y z : ℕ) → n ≡ rowWords w → FramesIn t1 e1 t2 e2 w h → y < h → z < h
+    → RowsIn t1 e1 t2 e2 (y * n) (z * n) w
+rows-in t1 e1 t2 e2 w h n y z e f k l = record {
+  threshold1 = row-room n w h y (length t1) e (f .threshold1) k;
+  exclusion1 = row-room n w h y (length e1) e (f .exclusion1) k;
+  threshold2 = row-room n w h z (length t2) e (f .threshold2) l;
+  exclusion2 = row-room n w h z (length e2) e (f .exclusion2) l;
+}
 
 -- the three ways of a row
 module _ (t1 e1 t2 e2 : List ℕ) (w h d up y : ℕ) where

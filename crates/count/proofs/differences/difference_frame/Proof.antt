@@ -16,15 +16,15 @@ abbrev μ-loop : tie.MeasureT-loop
 
 -- src/differences.rt:261:24
 biased-requires : tie.Need-biased-requires Inv-loop μ-loop
-biased-requires c κs = search needs
+biased-requires c κs = ?
 
 -- src/differences.rt:261:9
 move-by-requires : tie.Need-move-by-requires Inv-loop μ-loop
-move-by-requires c κs = search needs
+move-by-requires c κs = ?
 
 -- src/differences.rt:262:9
 biased-requires-2 : tie.Need-biased-requires-2 Inv-loop μ-loop
-biased-requires-2 c κs = search needs
+biased-requires-2 c κs = ?
 
 -- src/differences.rt:265:5
 loop-holds : tie.Need-loop-holds Inv-loop μ-loop
@@ -32,19 +32,19 @@ loop-holds c = ?
 
 -- src/differences.rt:266:18
 line-difference-requires : tie.Need-line-difference-requires Inv-loop μ-loop
-line-difference-requires c κs = search needs
+line-difference-requires c κs = ?
 
 -- src/differences.rt:266:9
 add-count : tie.Need-add-count Inv-loop μ-loop
-add-count c = search needs
+add-count c = ?
 
 -- src/differences.rt:267:9
 add-y : tie.Need-add-y Inv-loop μ-loop
-add-y c = search needs
+add-y c = ?
 
 -- src/differences.rt:265:5
 loop-less : tie.Need-loop-less Inv-loop μ-loop
-loop-less c = search needs
+loop-less c = ?
 
 -- src/differences.rt:265:5
 loop-again : tie.Need-loop-again Inv-loop μ-loop
