@@ -297,7 +297,7 @@ module _ (w h : ℕ) (dx dy : ℤ) (t1 e1 t2 e2 : List ℕ) (bx : SFits w32 dx) 
       ∙ within-none w (pos x -ℤ dx)
 
   -- a row of the frame
-  pub line-is : (y : ℕ) → y < h → lineDiffer t1 e1 t2 e2 w h (biasOf dx) (biasOf dy) y ≡ rowSum w (frameDiffer w h dx dy t1 e1 t2 e2) y
+  line-is : (y : ℕ) → y < h → lineDiffer t1 e1 t2 e2 w h (biasOf dx) (biasOf dy) y ≡ rowSum w (frameDiffer w h dx dy t1 e1 t2 e2) y
   unfolding lineDiffer
   line-is y l = ⊎-elim under over (order (bias + y) (biasOf dy))
     where
@@ -328,9 +328,14 @@ module _ (w h : ℕ) (dx dy : ℤ) (t1 e1 t2 e2 : List ℕ) (bx : SFits w32 dx) 
               ∙ sym (sum-zero w (λ x. frameDiffer w h dx dy t1 e1 t2 e2 x y)
               (λ x m. pixel-alone x y (λ f. within-back h y dy f by ∙ back-at (λ v. gate (ltb v h) (f v)) (biasOf dy) z (bias + y) s ∙ gate-ge z h (f z) k)))
 
-  pub frame-is : sum h (lineDiffer t1 e1 t2 e2 w h (biasOf dx) (biasOf dy)) ≡ difference w h dx dy (planesOf w h t1 e1) (planesOf w h t2 e2)
+  -- the rows make up the frame
+  pub frame-whole : (w′ d up count : ℕ) → w′ ≡ w → d ≡ biasOf dx → up ≡ biasOf dy → count ≡ sum h (lineDiffer t1 e1 t2 e2 w′ h d up)
+      → count ≡ difference w h dx dy (planesOf w h t1 e1) (planesOf w h t2 e2)
   unfolding difference sumPixels
-  frame-is = sum-ext h (lineDiffer t1 e1 t2 e2 w h (biasOf dx) (biasOf dy)) (rowSum w (frameDiffer w h dx dy t1 e1 t2 e2)) line-is
+  frame-whole w′ d up count p q r e =
+      e
+      ∙ (λ j. sum h (lineDiffer t1 e1 t2 e2 (p j) h (q j) (r j)))
+      ∙ sum-ext h (lineDiffer t1 e1 t2 e2 w h (biasOf dx) (biasOf dy)) (rowSum w (frameDiffer w h dx dy t1 e1 t2 e2)) line-is
 
 -- two rows of the frames
 pub rows-in : (t1 e1 t2 e2 : List ℕ) (w h n y z : ℕ) → n ≡ rowWords w → FramesIn t1 e1 t2 e2 w h → y < h → z < h
