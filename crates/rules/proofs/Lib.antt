@@ -2,3 +2,4 @@
 pub mod SumLaws
 pub mod FrameLaws
 pub mod RefusalLaws
+pub mod GreyLaws
