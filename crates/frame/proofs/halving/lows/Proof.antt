@@ -1,0 +1,75 @@
+use native.Mathlib.Omega.{arith}
+use borrow.Author.Needs.{needs}
+use Rattle.frame.proofs.halving.lows.Statement.{statement}
+use Rattle.frame.proofs.halving.lows.Tie as tie
+use Rattle.frame.proofs.halving.lows.Reads as reads
+use Rattle.frame.proofs.halving.lows.Lts as lts
+use Rattle.frame.proofs.halving.lower.Reads as lower-reads
+
+abbrev Inv-loop : tie.InvT-loop
+Inv-loop src top bottom low₀ k₀ low k = ?
+
+abbrev μ-loop : tie.MeasureT-loop
+μ-loop src top bottom low₀ k₀ low k = ?
+
+-- src/halving.rt:45:5
+loop-holds : tie.Need-loop-holds Inv-loop μ-loop
+loop-holds c = ?
+
+-- src/halving.rt:46:28
+add-lower : tie.Need-add-lower Inv-loop μ-loop
+add-lower c = search needs
+
+-- src/halving.rt:46:24
+shared-slice-read-lower : tie.Need-shared-slice-read-lower Inv-loop μ-loop
+shared-slice-read-lower c = search needs
+
+-- src/halving.rt:46:42
+add-lower-2 : tie.Need-add-lower-2 Inv-loop μ-loop
+add-lower-2 c = search needs
+
+-- src/halving.rt:46:38
+shared-slice-read-lower-2 : tie.Need-shared-slice-read-lower-2 Inv-loop μ-loop
+shared-slice-read-lower-2 c = search needs
+
+-- src/halving.rt:46:18
+lower-requires : tie.Need-lower-requires Inv-loop μ-loop
+lower-requires c κs = search needs
+
+-- src/halving.rt:46:9
+array-write-low : tie.Need-array-write-low Inv-loop μ-loop
+array-write-low c = search needs
+
+-- src/halving.rt:47:9
+add-k : tie.Need-add-k Inv-loop μ-loop
+add-k c = search needs
+
+-- src/halving.rt:45:5
+loop-less : tie.Need-loop-less Inv-loop μ-loop
+loop-less c = search needs
+
+-- src/halving.rt:45:5
+loop-again : tie.Need-loop-again Inv-loop μ-loop
+loop-again c = ?
+
+-- src/halving.rt:38:1
+returns : tie.Need-returns Inv-loop μ-loop
+returns c = ?
+
+pub lows-spec : {M : Type 1} → statement M
+lows-spec =
+    tie.close
+    (tie.spec
+    Inv-loop
+    μ-loop
+    loop-holds
+    add-lower
+    shared-slice-read-lower
+    add-lower-2
+    shared-slice-read-lower-2
+    lower-requires
+    array-write-low
+    add-k
+    loop-less
+    loop-again
+    returns)

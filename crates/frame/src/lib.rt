@@ -1,0 +1,4 @@
+// Grey conversion and halving of frames.
+
+pub mod conversion;
+pub mod halving;
