@@ -1,3 +1,8 @@
+use mathlib.Core.Path.{_≡_, refl, _∙_}
+use Prim.Native.Nat.{_*_, _≤_, _-_}
+use lib.ListN.{length, getD, length-set}
+use Rattle.frame.specs.Places.{evenAt, Filled}
+use Rattle.frame.proofs.PlaceLaws.{filled-none, filled-more}
 use native.Mathlib.Omega.{arith}
 use borrow.Author.Needs.{needs}
 use Rattle.frame.proofs.halving.evens.Statement.{statement}
@@ -6,14 +11,14 @@ use Rattle.frame.proofs.halving.evens.Reads as reads
 use Rattle.frame.proofs.halving.evens.Lts as lts
 
 abbrev Inv-loop : tie.InvT-loop
-Inv-loop all block₀ k₀ block k = ?
+Inv-loop all block₀ k₀ block k = (k ≤ 32) × (length block ≡ 32) × Filled (evenAt all) k block
 
 abbrev μ-loop : tie.MeasureT-loop
-μ-loop all block₀ k₀ block k = ?
+μ-loop all block₀ k₀ block k = 32 - k
 
 -- src/halving.rt:86:5
 loop-holds : tie.Need-loop-holds Inv-loop μ-loop
-loop-holds c = ?
+loop-holds c = (omega arith, refl, filled-none _ _)
 
 -- src/halving.rt:87:24
 mul-block : tie.Need-mul-block Inv-loop μ-loop
@@ -37,11 +42,21 @@ loop-less c = search needs
 
 -- src/halving.rt:86:5
 loop-again : tie.Need-loop-again Inv-loop μ-loop
-loop-again c = ?
+unfolding evenAt
+loop-again c =
+    let lp = c .before .before .loop in
+    (
+      omega arith,
+      length-set (lp .block) (lp .k) (getD (c .before .before .before .args .all .now) (2 * lp .k) 0) ∙ lp .inv .1,
+      filled-more _ (lp .k) (lp .block) (getD (c .before .before .before .args .all .now) (2 * lp .k) 0) (omega arith) (lp .inv .2) refl
+    )
 
 -- src/halving.rt:81:1
 returns : tie.Need-returns Inv-loop μ-loop
-returns c = ?
+returns c =
+    let lp = c .before .loop in
+    let e : lp .k ≡ 32 = omega arith in
+    rw e at (lp .inv .2)
 
 pub evens-spec : {M : Type 1} → statement M
 evens-spec =

@@ -1,3 +1,8 @@
+use mathlib.Core.Path.{_≡_, refl, _∙_}
+use Prim.Native.Nat.{_≤_, _-_}
+use lib.ListN.{length, length-set}
+use Rattle.frame.specs.Places.{highAt, Filled}
+use Rattle.frame.proofs.PlaceLaws.{filled-none, filled-more}
 use native.Mathlib.Omega.{arith}
 use borrow.Author.Needs.{needs}
 use Rattle.frame.proofs.halving.highs.Statement.{statement}
@@ -7,14 +12,14 @@ use Rattle.frame.proofs.halving.highs.Lts as lts
 use Rattle.frame.proofs.halving.upper.Reads as upper-reads
 
 abbrev Inv-loop : tie.InvT-loop
-Inv-loop src top bottom high₀ k₀ high k = ?
+Inv-loop src top bottom high₀ k₀ high k = (k ≤ 64) × (length high ≡ 64) × Filled (highAt src top bottom) k high
 
 abbrev μ-loop : tie.MeasureT-loop
-μ-loop src top bottom high₀ k₀ high k = ?
+μ-loop src top bottom high₀ k₀ high k = 64 - k
 
 -- src/halving.rt:60:5
 loop-holds : tie.Need-loop-holds Inv-loop μ-loop
-loop-holds c = ?
+loop-holds c = (omega arith, refl, filled-none _ _)
 
 -- src/halving.rt:61:29
 add-upper : tie.Need-add-upper Inv-loop μ-loop
@@ -50,11 +55,21 @@ loop-less c = search needs
 
 -- src/halving.rt:60:5
 loop-again : tie.Need-loop-again Inv-loop μ-loop
-loop-again c = ?
+unfolding highAt
+loop-again c =
+    let lp = c .before .before .before .before .loop in
+    (
+      omega arith,
+      length-set (lp .high) (lp .k) (c .upper .result) ∙ lp .inv .1,
+      filled-more _ (lp .k) (lp .high) (c .upper .result) (omega arith) (lp .inv .2) (c .upper .ensures)
+    )
 
 -- src/halving.rt:53:1
 returns : tie.Need-returns Inv-loop μ-loop
-returns c = ?
+returns c =
+    let lp = c .before .loop in
+    let e : lp .k ≡ 64 = omega arith in
+    rw e at (lp .inv .2)
 
 pub highs-spec : {M : Type 1} → statement M
 highs-spec =

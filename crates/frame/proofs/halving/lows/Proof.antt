@@ -1,3 +1,8 @@
+use mathlib.Core.Path.{_≡_, refl, _∙_}
+use Prim.Native.Nat.{_≤_, _-_}
+use lib.ListN.{length, length-set}
+use Rattle.frame.specs.Places.{lowAt, Filled}
+use Rattle.frame.proofs.PlaceLaws.{filled-none, filled-more}
 use native.Mathlib.Omega.{arith}
 use borrow.Author.Needs.{needs}
 use Rattle.frame.proofs.halving.lows.Statement.{statement}
@@ -7,14 +12,14 @@ use Rattle.frame.proofs.halving.lows.Lts as lts
 use Rattle.frame.proofs.halving.lower.Reads as lower-reads
 
 abbrev Inv-loop : tie.InvT-loop
-Inv-loop src top bottom low₀ k₀ low k = ?
+Inv-loop src top bottom low₀ k₀ low k = (k ≤ 64) × (length low ≡ 64) × Filled (lowAt src top bottom) k low
 
 abbrev μ-loop : tie.MeasureT-loop
-μ-loop src top bottom low₀ k₀ low k = ?
+μ-loop src top bottom low₀ k₀ low k = 64 - k
 
 -- src/halving.rt:45:5
 loop-holds : tie.Need-loop-holds Inv-loop μ-loop
-loop-holds c = ?
+loop-holds c = (omega arith, refl, filled-none _ _)
 
 -- src/halving.rt:46:28
 add-lower : tie.Need-add-lower Inv-loop μ-loop
@@ -50,11 +55,21 @@ loop-less c = search needs
 
 -- src/halving.rt:45:5
 loop-again : tie.Need-loop-again Inv-loop μ-loop
-loop-again c = ?
+unfolding lowAt
+loop-again c =
+    let lp = c .before .before .before .before .loop in
+    (
+      omega arith,
+      length-set (lp .low) (lp .k) (c .lower .result) ∙ lp .inv .1,
+      filled-more _ (lp .k) (lp .low) (c .lower .result) (omega arith) (lp .inv .2) (c .lower .ensures)
+    )
 
 -- src/halving.rt:38:1
 returns : tie.Need-returns Inv-loop μ-loop
-returns c = ?
+returns c =
+    let lp = c .before .loop in
+    let e : lp .k ≡ 64 = omega arith in
+    rw e at (lp .inv .2)
 
 pub lows-spec : {M : Type 1} → statement M
 lows-spec =

@@ -1,3 +1,8 @@
+use mathlib.Core.Path.{_≡_, refl, _∙_}
+use Prim.Native.Nat.{_≤_, _-_}
+use lib.ListN.{length, length-set}
+use Rattle.frame.specs.Places.{secondAt, Filled}
+use Rattle.frame.proofs.PlaceLaws.{filled-none, filled-more}
 use native.Mathlib.Omega.{arith}
 use borrow.Author.Needs.{needs}
 use Rattle.frame.proofs.halving.seconds.Statement.{statement}
@@ -7,14 +12,14 @@ use Rattle.frame.proofs.halving.seconds.Lts as lts
 use Rattle.frame.proofs.halving.second.Reads as second-reads
 
 abbrev Inv-loop : tie.InvT-loop
-Inv-loop low high all₀ k₀ all k = ?
+Inv-loop low high all₀ k₀ all k = (k ≤ 63) × (length all ≡ 64) × Filled (secondAt low high) k all
 
 abbrev μ-loop : tie.MeasureT-loop
-μ-loop low high all₀ k₀ all k = ?
+μ-loop low high all₀ k₀ all k = 63 - k
 
 -- src/halving.rt:74:5
 loop-holds : tie.Need-loop-holds Inv-loop μ-loop
-loop-holds c = ?
+loop-holds c = (omega arith, refl, filled-none _ _)
 
 -- src/halving.rt:75:25
 element-copy-out-second : tie.Need-element-copy-out-second Inv-loop μ-loop
@@ -58,11 +63,21 @@ loop-less c = search needs
 
 -- src/halving.rt:74:5
 loop-again : tie.Need-loop-again Inv-loop μ-loop
-loop-again c = ?
+unfolding secondAt
+loop-again c =
+    let lp = c .before .before .before .before .before .before .loop in
+    (
+      omega arith,
+      length-set (lp .all) (lp .k) (c .second .result) ∙ lp .inv .1,
+      filled-more _ (lp .k) (lp .all) (c .second .result) (omega arith) (lp .inv .2) (c .second .ensures)
+    )
 
 -- src/halving.rt:69:1
 returns : tie.Need-returns Inv-loop μ-loop
-returns c = ?
+returns c =
+    let lp = c .before .loop in
+    let e : lp .k ≡ 63 = omega arith in
+    rw e at (lp .inv .2)
 
 pub seconds-spec : {M : Type 1} → statement M
 seconds-spec =
