@@ -1,5 +1,5 @@
 -- Laws of refusal numbers: what an accepted call knows of its sizes, and the answers of a refused one.
-use mathlib.Core.Path.{_≡_, refl}
+use mathlib.Core.Path.{_≡_, refl, sym, _∙_}
 use mathlib.Core.Bool.{Bool, true, false, _||_, not, true≢false}
 use mathlib.Core.List.{List}
 use Prim.Native.Nat.{ℕ, zero, suc, _*_, _/_, _≤_, _<_}
@@ -20,6 +20,18 @@ pub when-no : (n : ℕ) (c : Bool) → 0 < n → n when c ≡ 0 → c ≡ false
 when-no n true l e = absurd (omega arith)
 when-no n false l e = refl
 
+-- A number that is given: its condition applies.
+pub when-yes : (n : ℕ) (c : Bool) → (n when c ≡ 0 → ⊥) → c ≡ true
+when-yes n true l = refl
+when-yes n false l = absurd (l refl)
+
+-- The same of a function's result n that is such a number.
+pub told-yes : (k n : ℕ) (c : Bool) → n ≡ k when c → (n ≡ 0 → ⊥) → c ≡ true
+told-yes k n c e l = when-yes k c (λ z. l (e ∙ z))
+
+pub told-no : (k n : ℕ) (c : Bool) → 0 < k → n ≡ k when c → n ≡ 0 → c ≡ false
+told-no k n c l e z = when-no k c l (sym e ∙ z)
+
 pub orElse-no : (a b : ℕ) → a orElse b ≡ 0 → (a ≡ 0) × (b ≡ 0)
 orElse-no zero b e = (refl, e)
 orElse-no (suc a) b e = absurd (omega arith)
@@ -35,6 +47,8 @@ pub record SizeOk (w h : ℕ) : Type 0 where
   pub high : 0 < h
   pub height : h ≤ 4096
   pub area : w * h ≤ 16777216
+  pub rowOfWords : rowWords w ≤ 64
+  pub bitmap : rowWords w * h ≤ 262144
 
 side-ok : (n : ℕ) → badSide n ≡ false → (0 < n) × (n ≤ 4096)
 unfolding badSide
@@ -44,12 +58,24 @@ side-ok n e =
     (omega arith, ltb-false maxSide n (p .1))
 
 pub size-ok : (w h : ℕ) → 2 when badSize w h ≡ 0 → SizeOk w h
-unfolding badSize
+unfolding badSize rowWords
 size-ok w h e =
     let p = or-no (badSide w) (badSide h) (when-no 2 (badSide w || badSide h) (omega arith) e) in
     let a = side-ok w (p .0) in
     let b = side-ok h (p .1) in
-    record { wide = a .0; width = a .1; high = b .0; height = b .1; area = mul-le-mul (a .1) (b .1) }
+    let n : rowWords w ≤ 64 = let l = a .1 in omega arith in
+    record {
+      wide = a .0;
+      width = a .1;
+      high = b .0;
+      height = b .1;
+      area = mul-le-mul (a .1) (b .1);
+      rowOfWords = n;
+      bitmap = mul-le-mul n (b .1);
+    }
+
+pub size-told : (w h n : ℕ) → n ≡ 2 when badSize w h → n ≡ 0 → SizeOk w h
+size-told w h n e z = size-ok w h (sym e ∙ z)
 
 length-is : (needed length : ℕ) → wrongLength needed length ≡ false → length ≡ needed
 length-is needed length e = eqb-true length needed (not-false (eqb length needed) e)

@@ -10,3 +10,4 @@ pub mod Differences
 pub mod Refusals
 pub mod Answers
 pub mod Calls
+pub mod Examples

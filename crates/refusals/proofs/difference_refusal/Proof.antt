@@ -1,47 +1,84 @@
+-- Each return rewrites with the tests on the way there; a product fits since the sizes are within their limits.
+use borrow.Author.Tests.{lt-ltb, le-ltb, eq-eqb, ne-eqb}
+use Rattle.rules.specs.Refusals.{differenceRefusal, badSize}
+use Rattle.rules.proofs.RefusalLaws.{told-yes, told-no, size-told}
 use native.Mathlib.Omega.{arith}
 use borrow.Author.Needs.{needs}
 use Rattle.refusals.proofs.difference_refusal.Statement.{statement}
 use Rattle.refusals.proofs.difference_refusal.Tie as tie
-use Rattle.refusals.proofs.difference_refusal.Reads as reads
-use Rattle.refusals.proofs.difference_refusal.Lts as lts
-use Rattle.refusals.proofs.row_words.Reads as row-words-reads
-use Rattle.refusals.proofs.size_refusal.Reads as size-refusal-reads
 
--- src/lib.rt:162:8
 size-refusal-requires : tie.Need-size-refusal-requires
 size-refusal-requires c κs = search needs
 
--- src/lib.rt:163:9
 returns : tie.Need-returns
-returns c = ?
+unfolding differenceRefusal
+returns c =
+    let a = c .before .before .args in
+    simp
+    (told-yes 2 _ (badSize (a .w) (a .h)) (c .before .size-refusal .ensures) (c .if1 .taken))
 
--- src/lib.rt:165:13
 row-words-requires : tie.Need-row-words-requires
 row-words-requires c κs = search needs
 
--- src/lib.rt:165:13
 mul-n : tie.Need-mul-n
-mul-n c = search needs
+mul-n c =
+    let a = c .before .before .before .args in
+    let k = size-told (a .w) (a .h) _ (c .before .before .size-refusal .ensures) (c .before .if1 .left) in
+    rw (c .row-words .ensures) (omega arith)
 
--- src/lib.rt:167:9
 returns-2 : tie.Need-returns-2
-returns-2 c = ?
+unfolding differenceRefusal
+returns-2 c =
+    let a = c .before .before .before .before .args in
+    simp (
+      told-no 2 _ (badSize (a .w) (a .h)) (omega arith) (c .before .before .before .size-refusal .ensures) (c .before .before .if1 .left),
+      ne-eqb _ _ (rw (c .before .row-words .ensures) at (c .if2 .taken)),
+    )
 
--- src/lib.rt:170:9
 returns-3 : tie.Need-returns-3
-returns-3 c = ?
+unfolding differenceRefusal
+returns-3 c =
+    let a = c .before .before .before .before .before .args in
+    simp (
+      told-no 2 _ (badSize (a .w) (a .h)) (omega arith) (c .before .before .before .before .size-refusal .ensures) (c .before .before .before .if1 .left),
+      eq-eqb _ _ (rw (c .before .before .row-words .ensures) at (c .before .if2 .left)),
+      ne-eqb _ _ (rw (c .before .before .row-words .ensures) at (c .if3 .taken)),
+    )
 
--- src/lib.rt:173:9
 returns-4 : tie.Need-returns-4
-returns-4 c = ?
+unfolding differenceRefusal
+returns-4 c =
+    let a = c .before .before .before .before .before .before .args in
+    simp (
+      told-no 2 _ (badSize (a .w) (a .h)) (omega arith) (c .before .before .before .before .before .size-refusal .ensures) (c .before .before .before .before .if1 .left),
+      eq-eqb _ _ (rw (c .before .before .before .row-words .ensures) at (c .before .before .if2 .left)),
+      eq-eqb _ _ (rw (c .before .before .before .row-words .ensures) at (c .before .if3 .left)),
+      ne-eqb _ _ (rw (c .before .before .before .row-words .ensures) at (c .if4 .taken)),
+    )
 
--- src/lib.rt:176:9
 returns-5 : tie.Need-returns-5
-returns-5 c = ?
+unfolding differenceRefusal
+returns-5 c =
+    let a = c .before .before .before .before .before .before .before .args in
+    simp (
+      told-no 2 _ (badSize (a .w) (a .h)) (omega arith) (c .before .before .before .before .before .before .size-refusal .ensures) (c .before .before .before .before .before .if1 .left),
+      eq-eqb _ _ (rw (c .before .before .before .before .row-words .ensures) at (c .before .before .before .if2 .left)),
+      eq-eqb _ _ (rw (c .before .before .before .before .row-words .ensures) at (c .before .before .if3 .left)),
+      eq-eqb _ _ (rw (c .before .before .before .before .row-words .ensures) at (c .before .if4 .left)),
+      ne-eqb _ _ (rw (c .before .before .before .before .row-words .ensures) at (c .if5 .taken)),
+    )
 
--- src/lib.rt:152:1
 returns-6 : tie.Need-returns-6
-returns-6 c = ?
+unfolding differenceRefusal
+returns-6 c =
+    let a = c .before .before .before .before .before .before .before .args in
+    simp (
+      told-no 2 _ (badSize (a .w) (a .h)) (omega arith) (c .before .before .before .before .before .before .size-refusal .ensures) (c .before .before .before .before .before .if1 .left),
+      eq-eqb _ _ (rw (c .before .before .before .before .row-words .ensures) at (c .before .before .before .if2 .left)),
+      eq-eqb _ _ (rw (c .before .before .before .before .row-words .ensures) at (c .before .before .if3 .left)),
+      eq-eqb _ _ (rw (c .before .before .before .before .row-words .ensures) at (c .before .if4 .left)),
+      eq-eqb _ _ (rw (c .before .before .before .before .row-words .ensures) at (c .if5 .left)),
+    )
 
 pub difference-refusal-spec : {M : Type 1} → statement M
 difference-refusal-spec =

@@ -1,46 +1,91 @@
+-- Each return rewrites with the tests on the way there; a product fits since the sizes are within their limits.
+use Prim.Native.Nat.{_/_, _≤_}
+use borrow.Author.Tests.{lt-ltb, le-ltb, eq-eqb, ne-eqb}
+use Rattle.rules.specs.Refusals.{halveRefusal, unhalvable, badSize}
+use Rattle.rules.proofs.RefusalLaws.{told-yes, told-no, size-told}
+use native.Mathlib.Nat.{mul-le-mul}
 use native.Mathlib.Omega.{arith}
 use borrow.Author.Needs.{needs}
 use Rattle.refusals.proofs.halve_refusal.Statement.{statement}
 use Rattle.refusals.proofs.halve_refusal.Tie as tie
-use Rattle.refusals.proofs.halve_refusal.Reads as reads
-use Rattle.refusals.proofs.halve_refusal.Lts as lts
-use Rattle.refusals.proofs.size_refusal.Reads as size-refusal-reads
 
--- src/lib.rt:69:8
 size-refusal-requires : tie.Need-size-refusal-requires
 size-refusal-requires c κs = search needs
 
--- src/lib.rt:70:9
 returns : tie.Need-returns
-returns c = ?
+unfolding halveRefusal unhalvable
+returns c =
+    let a = c .before .before .args in
+    simp
+    (told-yes 2 _ (badSize (a .w) (a .h)) (c .before .size-refusal .ensures) (c .if1 .taken))
 
--- src/lib.rt:73:9
 returns-2 : tie.Need-returns-2
-returns-2 c = ?
+unfolding halveRefusal unhalvable
+returns-2 c =
+    let a = c .before .before .before .args in
+    simp (
+      told-no 2 _ (badSize (a .w) (a .h)) (omega arith) (c .before .before .size-refusal .ensures) (c .before .if1 .left),
+      lt-ltb _ _ (c .if2 .taken),
+    )
 
--- src/lib.rt:76:9
 returns-3 : tie.Need-returns-3
-returns-3 c = ?
+unfolding halveRefusal unhalvable
+returns-3 c =
+    let a = c .before .before .before .before .args in
+    simp (
+      told-no 2 _ (badSize (a .w) (a .h)) (omega arith) (c .before .before .before .size-refusal .ensures) (c .before .before .if1 .left),
+      le-ltb _ _ (c .before .if2 .left),
+      lt-ltb _ _ (c .if3 .taken),
+    )
 
--- src/lib.rt:78:16
 mul-if4 : tie.Need-mul-if4
-mul-if4 c = search needs
+mul-if4 c =
+    let a = c .before .before .before .before .args in
+    let k = size-told (a .w) (a .h) _ (c .before .before .before .size-refusal .ensures) (c .before .before .if1 .left) in
+    omega arith
 
--- src/lib.rt:79:9
 returns-4 : tie.Need-returns-4
-returns-4 c = ?
+unfolding halveRefusal unhalvable
+returns-4 c =
+    let a = c .before .before .before .before .before .args in
+    simp (
+      told-no 2 _ (badSize (a .w) (a .h)) (omega arith) (c .before .before .before .before .size-refusal .ensures) (c .before .before .before .if1 .left),
+      le-ltb _ _ (c .before .before .if2 .left),
+      le-ltb _ _ (c .before .if3 .left),
+      ne-eqb _ _ (c .if4 .taken),
+    )
 
--- src/lib.rt:81:14
 mul-if5 : tie.Need-mul-if5
-mul-if5 c = search needs
+mul-if5 c =
+    let a = c .before .before .before .before .before .args in
+    let k = size-told (a .w) (a .h) _ (c .before .before .before .before .size-refusal .ensures) (c .before .before .before .if1 .left) in
+    let v : a .w / 2 ≤ 2048 = omega arith in
+    let u : a .h / 2 ≤ 2048 = omega arith in
+    omega (arith, mul-le-mul v u)
 
--- src/lib.rt:82:9
 returns-5 : tie.Need-returns-5
-returns-5 c = ?
+unfolding halveRefusal unhalvable
+returns-5 c =
+    let a = c .before .before .before .before .before .before .args in
+    simp (
+      told-no 2 _ (badSize (a .w) (a .h)) (omega arith) (c .before .before .before .before .before .size-refusal .ensures) (c .before .before .before .before .if1 .left),
+      le-ltb _ _ (c .before .before .before .if2 .left),
+      le-ltb _ _ (c .before .before .if3 .left),
+      eq-eqb _ _ (c .before .if4 .left),
+      lt-ltb _ _ (c .if5 .taken),
+    )
 
--- src/lib.rt:66:1
 returns-6 : tie.Need-returns-6
-returns-6 c = ?
+unfolding halveRefusal unhalvable
+returns-6 c =
+    let a = c .before .before .before .before .before .before .args in
+    simp (
+      told-no 2 _ (badSize (a .w) (a .h)) (omega arith) (c .before .before .before .before .before .size-refusal .ensures) (c .before .before .before .before .if1 .left),
+      le-ltb _ _ (c .before .before .before .if2 .left),
+      le-ltb _ _ (c .before .before .if3 .left),
+      eq-eqb _ _ (c .before .if4 .left),
+      le-ltb _ _ (c .if5 .left),
+    )
 
 pub halve-refusal-spec : {M : Type 1} → statement M
 halve-refusal-spec =

@@ -1,25 +1,26 @@
+-- Each return rewrites with the tests on the way there.
+use borrow.Author.Tests.{eq-eqb, ne-eqb}
+use Rattle.rules.specs.Refusals.{badPercentile}
 use native.Mathlib.Omega.{arith}
 use borrow.Author.Needs.{needs}
 use Rattle.refusals.proofs.percentile_refusal.Statement.{statement}
 use Rattle.refusals.proofs.percentile_refusal.Tie as tie
-use Rattle.refusals.proofs.percentile_refusal.Reads as reads
-use Rattle.refusals.proofs.percentile_refusal.Lts as lts
 
--- src/lib.rt:40:9
 returns : tie.Need-returns
-returns c = ?
+unfolding badPercentile
+returns c = simp (eq-eqb _ _ (c .if1 .taken))
 
--- src/lib.rt:43:9
 returns-2 : tie.Need-returns-2
-returns-2 c = ?
+unfolding badPercentile
+returns-2 c = simp (ne-eqb _ _ (c .before .if1 .left), eq-eqb _ _ (c .if2 .taken))
 
--- src/lib.rt:46:9
 returns-3 : tie.Need-returns-3
-returns-3 c = ?
+unfolding badPercentile
+returns-3 c = simp (ne-eqb _ _ (c .before .before .if1 .left), ne-eqb _ _ (c .before .if2 .left), eq-eqb _ _ (c .if3 .taken))
 
--- src/lib.rt:36:1
 returns-4 : tie.Need-returns-4
-returns-4 c = ?
+unfolding badPercentile
+returns-4 c = simp (ne-eqb _ _ (c .before .before .if1 .left), ne-eqb _ _ (c .before .if2 .left), ne-eqb _ _ (c .if3 .left))
 
 pub percentile-refusal-spec : {M : Type 1} → statement M
 percentile-refusal-spec = tie.close (tie.spec returns returns-2 returns-3 returns-4)

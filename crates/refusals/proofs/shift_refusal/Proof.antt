@@ -1,39 +1,59 @@
+-- Each return rewrites with the tests on the way there; a product fits since the sizes are within their limits.
+use borrow.Author.Tests.{lt-ltb, le-ltb, eq-eqb, ne-eqb}
+use Rattle.rules.specs.Refusals.{shiftRefusal, badSize}
+use Rattle.rules.proofs.RefusalLaws.{told-yes, told-no, size-told}
 use native.Mathlib.Omega.{arith}
 use borrow.Author.Needs.{needs}
 use Rattle.refusals.proofs.shift_refusal.Statement.{statement}
 use Rattle.refusals.proofs.shift_refusal.Tie as tie
-use Rattle.refusals.proofs.shift_refusal.Reads as reads
-use Rattle.refusals.proofs.shift_refusal.Lts as lts
-use Rattle.refusals.proofs.row_words.Reads as row-words-reads
-use Rattle.refusals.proofs.size_refusal.Reads as size-refusal-reads
 
--- src/lib.rt:127:8
 size-refusal-requires : tie.Need-size-refusal-requires
 size-refusal-requires c κs = search needs
 
--- src/lib.rt:128:9
 returns : tie.Need-returns
-returns c = ?
+unfolding shiftRefusal
+returns c =
+    let a = c .before .before .args in
+    simp
+    (told-yes 2 _ (badSize (a .w) (a .h)) (c .before .size-refusal .ensures) (c .if1 .taken))
 
--- src/lib.rt:130:13
 row-words-requires : tie.Need-row-words-requires
 row-words-requires c κs = search needs
 
--- src/lib.rt:130:13
 mul-n : tie.Need-mul-n
-mul-n c = search needs
+mul-n c =
+    let a = c .before .before .before .args in
+    let k = size-told (a .w) (a .h) _ (c .before .before .size-refusal .ensures) (c .before .if1 .left) in
+    rw (c .row-words .ensures) (omega arith)
 
--- src/lib.rt:132:9
 returns-2 : tie.Need-returns-2
-returns-2 c = ?
+unfolding shiftRefusal
+returns-2 c =
+    let a = c .before .before .before .before .args in
+    simp (
+      told-no 2 _ (badSize (a .w) (a .h)) (omega arith) (c .before .before .before .size-refusal .ensures) (c .before .before .if1 .left),
+      ne-eqb _ _ (rw (c .before .row-words .ensures) at (c .if2 .taken)),
+    )
 
--- src/lib.rt:135:9
 returns-3 : tie.Need-returns-3
-returns-3 c = ?
+unfolding shiftRefusal
+returns-3 c =
+    let a = c .before .before .before .before .before .args in
+    simp (
+      told-no 2 _ (badSize (a .w) (a .h)) (omega arith) (c .before .before .before .before .size-refusal .ensures) (c .before .before .before .if1 .left),
+      eq-eqb _ _ (rw (c .before .before .row-words .ensures) at (c .before .if2 .left)),
+      lt-ltb _ _ (rw (c .before .before .row-words .ensures) at (c .if3 .taken)),
+    )
 
--- src/lib.rt:124:1
 returns-4 : tie.Need-returns-4
-returns-4 c = ?
+unfolding shiftRefusal
+returns-4 c =
+    let a = c .before .before .before .before .before .args in
+    simp (
+      told-no 2 _ (badSize (a .w) (a .h)) (omega arith) (c .before .before .before .before .size-refusal .ensures) (c .before .before .before .if1 .left),
+      eq-eqb _ _ (rw (c .before .before .row-words .ensures) at (c .before .if2 .left)),
+      le-ltb _ _ (rw (c .before .before .row-words .ensures) at (c .if3 .left)),
+    )
 
 pub shift-refusal-spec : {M : Type 1} → statement M
 shift-refusal-spec =

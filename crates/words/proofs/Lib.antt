@@ -1,0 +1,2 @@
+-- Laws of bits and words, for the proofs of the crates that pack, shift and count.
+pub mod BitLaws

@@ -1,0 +1,1 @@
+// Functions on single packed words. The laws of bits stand in proofs/.
