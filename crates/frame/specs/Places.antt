@@ -1,7 +1,7 @@
 -- The pixel rules at places of a flat list.
 use mathlib.Core.Path.{_≡_}
 use mathlib.Core.List.{List}
-use Prim.Native.Nat.{ℕ, _+_, _*_, _<_, min, max}
+use Prim.Native.Nat.{ℕ, _+_, _*_, _<_, _≤_, min, max}
 use lib.ListN.{getD}
 use Rattle.rules.specs.Greys.{grey, secondSmallest}
 
@@ -20,6 +20,9 @@ highAt l top bottom k = max (getD l (top + k) 0) (getD l (bottom + k) 0)
 unfoldable pub secondAt : List ℕ → List ℕ → ℕ → ℕ
 secondAt low high k = min (max (getD low k 0) (getD low (k + 1) 0)) (min (getD high k 0) (getD high (k + 1) 0))
 
+unfoldable pub itemAt : List ℕ → ℕ → ℕ
+itemAt l k = getD l k 0
+
 unfoldable pub evenAt : List ℕ → ℕ → ℕ
 evenAt l k = getD l (2 * k) 0
 
@@ -35,3 +38,9 @@ halfAt l top bottom k =
 -- a list whose first n numbers are f's
 pub record Filled (f : ℕ → ℕ) (n : ℕ) (l : List ℕ) : Type 0 where
   pub done : (k : ℕ) → k < n → getD l k 0 ≡ f k
+
+-- n results of two rows fit: both rows lie in the source, and the results in the destination from place `to` on
+pub record RowFits (source top bottom destination to n : ℕ) : Type 0 where
+  pub above : top + 2 * n ≤ source
+  pub below : bottom + 2 * n ≤ source
+  pub room : to + n ≤ destination

@@ -7,7 +7,7 @@ ghost use lib.ListN.{length, getD};
 ghost use Rattle.rules.specs.Frames.{frameOf};
 ghost use Rattle.rules.specs.Greys.{secondSmallest, halved};
 ghost use Rattle.rules.proofs.FrameLaws.{RowAt, FrameAt};
-ghost use Rattle.frame.specs.Places.{lowAt, highAt, secondAt, evenAt, halfAt, Filled};
+ghost use Rattle.frame.specs.Places.{lowAt, highAt, secondAt, evenAt, itemAt, halfAt, Filled, RowFits};
 
 fn lower(a: u8, b: u8) -> u8
     ensures { λ r. ⌜ r ≡ min a b ⌝ }
@@ -100,4 +100,71 @@ pub fn halve_block(src: &[u8], top: usize, bottom: usize) -> [u8; 32]
     let high = highs(src, top, bottom);
     let all = seconds(&low, &high);
     evens(&all)
+}
+
+// A block's results, written from place `to` on.
+pub fn store_block(block: &[u8; 32], dst: &mut [u8], to: usize)
+    requires { ⌜ to + 32 ≤ length (now dst) ⌝ }
+    ensures { λ _. ⌜ RowAt to (itemAt (now (block .entry))) (now (dst .entry)) 32 (now (dst .exit)) ⌝ }
+{
+    let mut k: usize = 0;
+    while k < 32 {
+        dst[to + k] = block[k];
+        k += 1;
+    }
+}
+
+// The first results of two rows, as many whole blocks as n holds.
+fn halve_blocks(src: &[u8], top: usize, bottom: usize, dst: &mut [u8], to: usize, n: usize)
+    requires { ⌜ RowFits (length (now src)) top bottom (length (now dst)) to n ⌝ }
+    ensures { λ _. ⌜ RowAt to (halfAt (now (src .entry)) top bottom) (now (dst .entry)) (32 * (n / 32)) (now (dst .exit)) ⌝ }
+{
+    let blocks = n / 32;
+    let mut b: usize = 0;
+    while b < blocks {
+        let k = 32 * b;
+        let block = halve_block(src, top + 2 * k, bottom + 2 * k);
+        store_block(&block, dst, to + k);
+        b += 1;
+    }
+}
+
+// The results of two rows one by one, for what is left beside whole blocks.
+fn halve_rest(src: &[u8], top: usize, bottom: usize, dst: &mut [u8], to: usize, n: usize)
+    requires { ⌜ RowFits (length (now src)) top bottom (length (now dst)) to n ⌝ }
+    ensures { λ _. ⌜ RowAt to (halfAt (now (src .entry)) top bottom) (now (dst .entry)) n (now (dst .exit)) ⌝ }
+{
+    let mut k: usize = 0;
+    while k < n {
+        let left = 2 * k;
+        let right = left + 1;
+        dst[to + k] = second_smallest(src[top + left], src[top + right], src[bottom + left], src[bottom + right]);
+        k += 1;
+    }
+}
+
+// The n results of two rows whose bytes begin at `top` and at `bottom`, written from place `to` on.
+pub fn halve_row(src: &[u8], top: usize, bottom: usize, dst: &mut [u8], to: usize, n: usize)
+    requires { ⌜ RowFits (length (now src)) top bottom (length (now dst)) to n ⌝ }
+    ensures { λ _. ⌜ RowAt to (halfAt (now (src .entry)) top bottom) (now (dst .entry)) n (now (dst .exit)) ⌝ }
+{
+    halve_blocks(src, top, bottom, dst, to, n);
+    let k = 32 * (n / 32);
+    halve_rest(src, top + 2 * k, bottom + 2 * k, dst, to + k, n - k);
+}
+
+// A grey frame of w by h, halved to the beginning of `dst`.
+pub fn halve_frame(src: &[u8], w: usize, h: usize, dst: &mut [u8])
+    requires { ⌜ w * h ≤ length (now src) ⌝ }
+    requires { ⌜ w / 2 * (h / 2) ≤ length (now dst) ⌝ }
+    ensures { λ _. ⌜ FrameAt 0 (w / 2) (halved (frameOf w (now (src .entry)))) (now (dst .entry)) (h / 2) (now (dst .exit)) ⌝ }
+{
+    let columns = w / 2;
+    let lines = h / 2;
+    let mut y: usize = 0;
+    while y < lines {
+        let top = 2 * y * w;
+        halve_row(src, top, top + w, dst, y * columns, columns);
+        y += 1;
+    }
 }
