@@ -1,3 +1,10 @@
+use mathlib.Core.Path.{_≡_, refl, sym, _∙_}
+use lib.ListN.{length}
+use Rattle.rules.specs.Greys.{greyFrame}
+use Rattle.rules.proofs.FrameLaws.{frame-written}
+use Rattle.rules.proofs.RefusalLaws.{GreyOk, grey-ok, written-refused, lent-refused}
+use Rattle.frame.specs.Places.{greyAt}
+use Rattle.frame.proofs.PlaceLaws.{flat-frame}
 use native.Mathlib.Omega.{arith}
 use borrow.Author.Needs.{needs}
 use Rattle.frame.proofs.to_grey.Statement.{statement}
@@ -13,15 +20,24 @@ grey-refusal-requires c κs = search needs
 
 -- src/lib.rt:18:9
 returns : tie.Need-returns
-returns c = ?
+returns c =
+    rw (← c .before .grey-refusal .ensures)
+    (written-refused _ (c .if1 .taken), lent-refused _ _ _ (c .if1 .taken))
+
+-- what an accepted call knows of its sizes
+accepted : (c : tie.Else1)
+    → let a = c .before .before .before .before .args in GreyOk (a .w) (a .h) (length (a .raster .now)) (length (a .grey .now))
+accepted c =
+    let a = c .before .before .before .before .args in
+    grey-ok (a .w) (a .h) (length (a .raster .now)) (length (a .grey .now)) (sym (c .before .grey-refusal .ensures) ∙ c .if1 .left)
 
 -- src/lib.rt:20:33
 mul-convert : tie.Need-mul-convert
-mul-convert c = search needs
+mul-convert c = omega (arith, accepted c)
 
 -- src/lib.rt:20:5
 convert-requires : tie.Need-convert-requires
-convert-requires c κs = search needs
+convert-requires c κs = omega (arith, accepted (c .before))
 
 -- src/lib.rt:12:1
 same-length : tie.Need-same-length
@@ -29,7 +45,23 @@ same-length c = search needs
 
 -- src/lib.rt:12:1
 returns-2 : tie.Need-returns-2
-returns-2 c = ?
+unfolding greyAt greyFrame
+returns-2 c =
+    let done = c .before .before in
+    let taken = done .before .before in
+    let a = taken .before .before .before .before .args in
+    let e = sym (taken .before .grey-refusal .ensures) ∙ taken .if1 .left in
+    rw e (
+      refl,
+      frame-written
+      (a .w)
+      (a .h)
+      (greyFrame (a .w) (a .raster .now))
+      (a .grey .now)
+      (done .convert .last .1 .1 .0)
+      (accepted taken .room)
+      (flat-frame 0 (a .w) (a .h) (greyAt (a .raster .now)) (a .grey .now) (done .convert .last .1 .1 .0) (done .convert .ensures)),
+    )
 
 pub to-grey-spec : {M : Type 1} → statement M
 to-grey-spec =
