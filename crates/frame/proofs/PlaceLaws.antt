@@ -3,7 +3,7 @@ use mathlib.Core.Path.{_≡_, sym, ap, _∙_}
 use mathlib.Core.Logic.{⊎-elim}
 use mathlib.Core.List.{List}
 use Prim.Native.Nat.{ℕ, _+_, _*_, _-_, _/_, _≤_, _<_}
-use native.Mathlib.Nat.{zero-add, one-mul, add-mul, mul-comm, mul-le-mul-right}
+use native.Mathlib.Nat.{one-mul, add-mul, mul-comm, mul-le-mul-right}
 use native.Mathlib.Omega.{arith}
 use lib.ListN.{length, getD, set}
 use lib.Seq.{getD-set-same, getD-set-other}
@@ -32,7 +32,7 @@ filled-more f n l v room r e = record { done = λ k m. ⊎-elim (old k) (new k m
 pub block-is : (l low high all block : List ℕ) (top bottom : ℕ)
     → Filled (lowAt l top bottom) 64 low
     → Filled (highAt l top bottom) 64 high
-    → Filled (secondAt low high) 63 all
+    → Filled (secondAt low high) 64 all
     → Filled (evenAt all) 32 block
     → Filled (halfAt l top bottom) 32 block
 unfolding lowAt highAt secondAt evenAt halfAt
@@ -43,7 +43,7 @@ block-is l low high all block top bottom a b c d = record { done = result }
         d .done k m
         ∙ c .done (2 * k) (omega arith)
         ∙ rw (a .done (2 * k) (omega arith), a .done (2 * k + 1) (omega arith), b .done (2 * k) (omega arith), b .done (2 * k + 1) (omega arith))
-          (sym (second-columns (getD l (top + 2 * k) 0) (getD l (top + (2 * k + 1)) 0) (getD l (bottom + 2 * k) 0) (getD l (bottom + (2 * k + 1)) 0)))
+        (sym (second-columns (getD l (top + 2 * k) 0) (getD l (top + (2 * k + 1)) 0) (getD l (bottom + 2 * k) 0) (getD l (bottom + (2 * k + 1)) 0)))
 
 -- The rule of a row, from its place k on.
 pub half-on : (l : List ℕ) (top bottom k j : ℕ) → halfAt l (top + 2 * k) (bottom + 2 * k) j ≡ halfAt l top bottom (k + j)
@@ -121,14 +121,14 @@ rows-fit w h y l =
     omega arith
 
 -- one more row of a half
-pub half-more : (l before mid after : List ℕ) (w y : ℕ)
-    → FrameAt 0 (w / 2) (halved (frameOf w l)) before y mid
-    → RowAt (y * (w / 2)) (halfAt l (2 * y * w) (2 * y * w + w)) mid (w / 2) after
-    → FrameAt 0 (w / 2) (halved (frameOf w l)) before (y + 1) after
-half-more l before mid after w y a r =
-    frame-more 0 (w / 2) (halved (frameOf w l)) before y mid after a
-    (rw zero-add
-    (row-ext (y * (w / 2)) (halfAt l (2 * y * w) (2 * y * w + w)) (λ x. halved (frameOf w l) x y) mid after (w / 2) (λ x m. half-row l w x y) r))
+pub half-more : (l before mid after : List ℕ) (to w y : ℕ)
+    → FrameAt to (w / 2) (halved (frameOf w l)) before y mid
+    → RowAt (to + y * (w / 2)) (halfAt l (2 * y * w) (2 * y * w + w)) mid (w / 2) after
+    → FrameAt to (w / 2) (halved (frameOf w l)) before (y + 1) after
+half-more l before mid after to w y a r =
+    let top : ℕ = 2 * y * w in
+    frame-more to (w / 2) (halved (frameOf w l)) before y mid after a
+    (row-ext (to + y * (w / 2)) (halfAt l top (top + w)) (λ x. halved (frameOf w l) x y) mid after (w / 2) (λ x m. half-row l w x y) r)
 
 -- numbers written flat are a frame
 pub flat-frame : (to w h : ℕ) (f : ℕ → ℕ) (before after : List ℕ) → RowAt to f before (w * h) after

@@ -2,8 +2,8 @@
 // branch, which the compiler takes many bytes at a time.
 
 ghost use mathlib.Core.Path.{_≡_};
-ghost use Prim.Native.Nat.{ℕ, _+_, _*_, _<_, _≤_, _/_, min, max};
-ghost use lib.ListN.{length, getD};
+ghost use Prim.Native.Nat.{_+_, _*_, _/_, _≤_, min, max};
+ghost use lib.ListN.{length};
 ghost use Rattle.rules.specs.Frames.{frameOf};
 ghost use Rattle.rules.specs.Greys.{secondSmallest, halved};
 ghost use Rattle.rules.proofs.FrameLaws.{RowAt, FrameAt};
@@ -34,13 +34,14 @@ pub fn second_smallest(a: u8, b: u8, c: u8, d: u8) -> u8
     second(lower(a, c), lower(b, d), upper(a, c), upper(b, d))
 }
 
-// The lower of each of 64 neighbouring columns of two rows.
-fn lows(src: &[u8], top: usize, bottom: usize) -> [u8; 64]
+// The lower of each of 64 neighbouring columns of two rows. (A byte more, so that the last column
+// has a neighbour in `seconds` too: a loop of whole vectors has no rest.)
+fn lows(src: &[u8], top: usize, bottom: usize) -> [u8; 65]
     requires { ⌜ top + 64 ≤ length (now src) ⌝ }
     requires { ⌜ bottom + 64 ≤ length (now src) ⌝ }
     ensures { λ r. ⌜ Filled (lowAt (now (src .entry)) top bottom) 64 r ⌝ }
 {
-    let mut low = [0u8; 64];
+    let mut low = [0u8; 65];
     let mut k: usize = 0;
     while k < 64 {
         low[k] = lower(src[top + k], src[bottom + k]);
@@ -49,13 +50,13 @@ fn lows(src: &[u8], top: usize, bottom: usize) -> [u8; 64]
     low
 }
 
-// The higher of each of 64 neighbouring columns of two rows.
-fn highs(src: &[u8], top: usize, bottom: usize) -> [u8; 64]
+// The higher of each, likewise.
+fn highs(src: &[u8], top: usize, bottom: usize) -> [u8; 65]
     requires { ⌜ top + 64 ≤ length (now src) ⌝ }
     requires { ⌜ bottom + 64 ≤ length (now src) ⌝ }
     ensures { λ r. ⌜ Filled (highAt (now (src .entry)) top bottom) 64 r ⌝ }
 {
-    let mut high = [0u8; 64];
+    let mut high = [0u8; 65];
     let mut k: usize = 0;
     while k < 64 {
         high[k] = upper(src[top + k], src[bottom + k]);
@@ -64,14 +65,14 @@ fn highs(src: &[u8], top: usize, bottom: usize) -> [u8; 64]
     high
 }
 
-// The second smallest of every two neighbouring columns, the odd ones too: picking the wanted
-// columns afterwards leaves this loop plain.
-fn seconds(low: &[u8; 64], high: &[u8; 64]) -> [u8; 64]
-    ensures { λ r. ⌜ Filled (secondAt (now (low .entry)) (now (high .entry))) 63 r ⌝ }
+// The second smallest of each column and its neighbour, unwanted ones too: a step of one keeps the
+// loop plain, and `evens` picks.
+fn seconds(low: &[u8; 65], high: &[u8; 65]) -> [u8; 64]
+    ensures { λ r. ⌜ Filled (secondAt (now (low .entry)) (now (high .entry))) 64 r ⌝ }
 {
     let mut all = [0u8; 64];
     let mut k: usize = 0;
-    while k < 63 {
+    while k < 64 {
         all[k] = second(low[k], low[k + 1], high[k], high[k + 1]);
         k += 1;
     }
@@ -138,13 +139,18 @@ fn halve_rest(src: &[u8], top: usize, bottom: usize, dst: &mut [u8], to: usize, 
     while k < n {
         let left = 2 * k;
         let right = left + 1;
-        dst[to + k] = second_smallest(src[top + left], src[top + right], src[bottom + left], src[bottom + right]);
+        dst[to + k] = second_smallest(
+            src[top + left],
+            src[top + right],
+            src[bottom + left],
+            src[bottom + right],
+        );
         k += 1;
     }
 }
 
 // The n results of two rows whose bytes begin at `top` and at `bottom`, written from place `to` on.
-pub fn halve_row(src: &[u8], top: usize, bottom: usize, dst: &mut [u8], to: usize, n: usize)
+fn halve_row(src: &[u8], top: usize, bottom: usize, dst: &mut [u8], to: usize, n: usize)
     requires { ⌜ RowFits (length (now src)) top bottom (length (now dst)) to n ⌝ }
     ensures { λ _. ⌜ RowAt to (halfAt (now (src .entry)) top bottom) (now (dst .entry)) n (now (dst .exit)) ⌝ }
 {

@@ -4,7 +4,6 @@ pub mod conversion;
 pub mod halving;
 
 use rules::Written;
-
 ghost use mathlib.Core.Path.{_≡_};
 ghost use Rattle.rules.specs.Calls.{greyAnswer, greyOut, halveAnswer, halveOut};
 

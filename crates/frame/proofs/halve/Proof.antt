@@ -1,24 +1,19 @@
-use mathlib.Core.Path.{_≡_, refl, sym, _∙_}
+-- A refused call answers its number and touches nothing; an accepted one has the sizes that the core requires.
+use mathlib.Core.Path.{refl, sym, _∙_}
 use Prim.Native.Nat.{_/_}
+use native.Mathlib.Omega.{arith}
 use lib.ListN.{length}
+use borrow.Author.Needs.{needs}
 use Rattle.rules.specs.Frames.{frameOf}
 use Rattle.rules.specs.Greys.{halved}
 use Rattle.rules.proofs.FrameLaws.{frame-written}
 use Rattle.rules.proofs.RefusalLaws.{HalveOk, halve-ok, written-refused, lent-refused}
-use native.Mathlib.Omega.{arith}
-use borrow.Author.Needs.{needs}
 use Rattle.frame.proofs.halve.Statement.{statement}
 use Rattle.frame.proofs.halve.Tie as tie
-use Rattle.frame.proofs.halve.Reads as reads
-use Rattle.frame.proofs.halve.Lts as lts
-use Rattle.frame.proofs.halving.halve_frame.Reads as halve-frame-reads
-use Rattle.refusals.proofs.halve_refusal.Reads as halve-refusal-reads
 
--- src/lib.rt:29:9
 halve-refusal-requires : tie.Need-halve-refusal-requires
 halve-refusal-requires c κs = search needs
 
--- src/lib.rt:31:9
 returns : tie.Need-returns
 returns c =
     rw (← c .before .halve-refusal .ensures)
@@ -31,15 +26,12 @@ accepted c =
     let a = c .before .before .before .before .args in
     halve-ok (a .w) (a .h) (length (a .grey .now)) (length (a .out .now)) (sym (c .before .halve-refusal .ensures) ∙ c .if1 .left)
 
--- src/lib.rt:33:5
 halve-frame-requires : tie.Need-halve-frame-requires
 halve-frame-requires c κs = omega (arith, accepted (c .before))
 
--- src/lib.rt:25:1
 same-length : tie.Need-same-length
 same-length c = search needs
 
--- src/lib.rt:25:1
 returns-2 : tie.Need-returns-2
 returns-2 c =
     let done = c .before .before in
@@ -49,13 +41,13 @@ returns-2 c =
     rw e (
       refl,
       frame-written
-      (a .w / 2)
-      (a .h / 2)
-      (halved (frameOf (a .w) (a .grey .now)))
-      (a .out .now)
-      (done .halve-frame .last .1 .1 .1 .0)
-      (accepted taken .room)
-      (done .halve-frame .ensures),
+          (a .w / 2)
+          (a .h / 2)
+          (halved (frameOf (a .w) (a .grey .now)))
+          (a .out .now)
+          (done .halve-frame .last .1 .1 .1 .0)
+          (accepted taken .room)
+          (done .halve-frame .ensures),
     )
 
 pub halve-spec : {M : Type 1} → statement M

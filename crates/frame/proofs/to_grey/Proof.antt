@@ -1,24 +1,19 @@
-use mathlib.Core.Path.{_≡_, refl, sym, _∙_}
+-- A refused call answers its number and touches nothing; an accepted one has the sizes that the core requires, and the flat row is the frame.
+use mathlib.Core.Path.{refl, sym, _∙_}
+use native.Mathlib.Omega.{arith}
 use lib.ListN.{length}
+use borrow.Author.Needs.{needs}
 use Rattle.rules.specs.Greys.{greyFrame}
 use Rattle.rules.proofs.FrameLaws.{frame-written}
 use Rattle.rules.proofs.RefusalLaws.{GreyOk, grey-ok, written-refused, lent-refused}
 use Rattle.frame.specs.Places.{greyAt}
 use Rattle.frame.proofs.PlaceLaws.{flat-frame}
-use native.Mathlib.Omega.{arith}
-use borrow.Author.Needs.{needs}
 use Rattle.frame.proofs.to_grey.Statement.{statement}
 use Rattle.frame.proofs.to_grey.Tie as tie
-use Rattle.frame.proofs.to_grey.Reads as reads
-use Rattle.frame.proofs.to_grey.Lts as lts
-use Rattle.frame.proofs.conversion.convert.Reads as convert-reads
-use Rattle.refusals.proofs.grey_refusal.Reads as grey-refusal-reads
 
--- src/lib.rt:16:9
 grey-refusal-requires : tie.Need-grey-refusal-requires
 grey-refusal-requires c κs = search needs
 
--- src/lib.rt:18:9
 returns : tie.Need-returns
 returns c =
     rw (← c .before .grey-refusal .ensures)
@@ -31,19 +26,15 @@ accepted c =
     let a = c .before .before .before .before .args in
     grey-ok (a .w) (a .h) (length (a .raster .now)) (length (a .grey .now)) (sym (c .before .grey-refusal .ensures) ∙ c .if1 .left)
 
--- src/lib.rt:20:33
 mul-convert : tie.Need-mul-convert
 mul-convert c = omega (arith, accepted c)
 
--- src/lib.rt:20:5
 convert-requires : tie.Need-convert-requires
 convert-requires c κs = omega (arith, accepted (c .before))
 
--- src/lib.rt:12:1
 same-length : tie.Need-same-length
 same-length c = search needs
 
--- src/lib.rt:12:1
 returns-2 : tie.Need-returns-2
 unfolding greyAt greyFrame
 returns-2 c =
@@ -54,13 +45,13 @@ returns-2 c =
     rw e (
       refl,
       frame-written
-      (a .w)
-      (a .h)
-      (greyFrame (a .w) (a .raster .now))
-      (a .grey .now)
-      (done .convert .last .1 .1 .0)
-      (accepted taken .room)
-      (flat-frame 0 (a .w) (a .h) (greyAt (a .raster .now)) (a .grey .now) (done .convert .last .1 .1 .0) (done .convert .ensures)),
+          (a .w)
+          (a .h)
+          (greyFrame (a .w) (a .raster .now))
+          (a .grey .now)
+          (done .convert .last .1 .1 .0)
+          (accepted taken .room)
+          (flat-frame 0 (a .w) (a .h) (greyAt (a .raster .now)) (a .grey .now) (done .convert .last .1 .1 .0) (done .convert .ensures)),
     )
 
 pub to-grey-spec : {M : Type 1} → statement M

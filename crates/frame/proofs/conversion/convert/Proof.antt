@@ -1,14 +1,12 @@
+-- The invariant: the first i grey values are written, and nothing else has changed.
 use mathlib.Core.Path.{_≡_}
 use Prim.Native.Nat.{_≤_, _-_}
-use Rattle.rules.proofs.FrameLaws.{RowAt, row-none, row-more}
-use Rattle.frame.specs.Places.{greyAt}
 use native.Mathlib.Omega.{arith}
 use borrow.Author.Needs.{needs}
+use Rattle.rules.proofs.FrameLaws.{RowAt, row-none, row-more}
+use Rattle.frame.specs.Places.{greyAt}
 use Rattle.frame.proofs.conversion.convert.Statement.{statement}
 use Rattle.frame.proofs.conversion.convert.Tie as tie
-use Rattle.frame.proofs.conversion.convert.Reads as reads
-use Rattle.frame.proofs.conversion.convert.Lts as lts
-use Rattle.frame.proofs.conversion.grey_of.Reads as grey-of-reads
 
 abbrev Inv-loop : tie.InvT-loop
 Inv-loop raster n grey₀ to i₀ grey i = (i ≤ n) × RowAt to (greyAt raster) grey₀ i grey
@@ -16,74 +14,57 @@ Inv-loop raster n grey₀ to i₀ grey i = (i ≤ n) × RowAt to (greyAt raster)
 abbrev μ-loop : tie.MeasureT-loop
 μ-loop raster n grey₀ to i₀ grey i = n - i
 
--- src/conversion.rt:23:5
 loop-holds : tie.Need-loop-holds Inv-loop μ-loop
 loop-holds c = (omega arith, row-none _ _ _)
 
--- src/conversion.rt:24:39
 mul-grey-of : tie.Need-mul-grey-of Inv-loop μ-loop
 mul-grey-of c = search needs
 
--- src/conversion.rt:24:32
 shared-slice-read-grey-of : tie.Need-shared-slice-read-grey-of Inv-loop μ-loop
 shared-slice-read-grey-of c = search needs
 
--- src/conversion.rt:24:54
 mul-grey-of-2 : tie.Need-mul-grey-of-2 Inv-loop μ-loop
 mul-grey-of-2 c = search needs
 
--- src/conversion.rt:24:54
 add-grey-of : tie.Need-add-grey-of Inv-loop μ-loop
 add-grey-of c = search needs
 
--- src/conversion.rt:24:47
 shared-slice-read-grey-of-2 : tie.Need-shared-slice-read-grey-of-2 Inv-loop μ-loop
 shared-slice-read-grey-of-2 c = search needs
 
--- src/conversion.rt:24:73
 mul-grey-of-3 : tie.Need-mul-grey-of-3 Inv-loop μ-loop
 mul-grey-of-3 c = search needs
 
--- src/conversion.rt:24:73
 add-grey-of-2 : tie.Need-add-grey-of-2 Inv-loop μ-loop
 add-grey-of-2 c = search needs
 
--- src/conversion.rt:24:66
 shared-slice-read-grey-of-3 : tie.Need-shared-slice-read-grey-of-3 Inv-loop μ-loop
 shared-slice-read-grey-of-3 c = search needs
 
--- src/conversion.rt:24:24
 grey-of-requires : tie.Need-grey-of-requires Inv-loop μ-loop
 grey-of-requires c κs = search needs
 
--- src/conversion.rt:24:14
 add-grey : tie.Need-add-grey Inv-loop μ-loop
 add-grey c = search needs
 
--- src/conversion.rt:24:9
 slice-write-grey : tie.Need-slice-write-grey Inv-loop μ-loop
 slice-write-grey c = search needs
 
--- src/conversion.rt:25:9
 add-i : tie.Need-add-i Inv-loop μ-loop
 add-i c = search needs
 
--- src/conversion.rt:23:5
 loop-less : tie.Need-loop-less Inv-loop μ-loop
 loop-less c = search needs
 
--- src/conversion.rt:23:5
 loop-again : tie.Need-loop-again Inv-loop μ-loop
 unfolding greyAt
 loop-again c =
     let lp = c .before .before .before .before .before .loop in
     (omega arith, row-more _ _ _ (lp .i) (lp .grey) (c .grey-of .result) (omega arith) (lp .inv .1) (c .grey-of .ensures))
 
--- src/conversion.rt:17:1
 same-length : tie.Need-same-length Inv-loop μ-loop
 same-length c = search needs
 
--- src/conversion.rt:17:1
 returns : tie.Need-returns Inv-loop μ-loop
 returns c =
     let lp = c .before .loop in

@@ -1,14 +1,12 @@
+-- The invariant: the first k results are written, and nothing else has changed.
 use mathlib.Core.Path.{_≡_}
 use Prim.Native.Nat.{_≤_, _-_}
-use Rattle.rules.proofs.FrameLaws.{RowAt, row-none, row-more}
-use Rattle.frame.specs.Places.{halfAt}
 use native.Mathlib.Omega.{arith}
 use borrow.Author.Needs.{needs}
+use Rattle.rules.proofs.FrameLaws.{RowAt, row-none, row-more}
+use Rattle.frame.specs.Places.{halfAt}
 use Rattle.frame.proofs.halving.halve_rest.Statement.{statement}
 use Rattle.frame.proofs.halving.halve_rest.Tie as tie
-use Rattle.frame.proofs.halving.halve_rest.Reads as reads
-use Rattle.frame.proofs.halving.halve_rest.Lts as lts
-use Rattle.frame.proofs.halving.second_smallest.Reads as second-smallest-reads
 
 abbrev Inv-loop : tie.InvT-loop
 Inv-loop src top bottom dst₀ to n k₀ dst k = (k ≤ n) × RowAt to (halfAt src top bottom) dst₀ k dst
@@ -16,95 +14,75 @@ Inv-loop src top bottom dst₀ to n k₀ dst k = (k ≤ n) × RowAt to (halfAt s
 abbrev μ-loop : tie.MeasureT-loop
 μ-loop src top bottom dst₀ to n k₀ dst k = n - k
 
--- src/halving.rt:138:5
 loop-holds : tie.Need-loop-holds Inv-loop μ-loop
 loop-holds c = (omega arith, row-none _ _ _)
 
--- src/halving.rt:139:20
 mul-left : tie.Need-mul-left Inv-loop μ-loop
 mul-left c = search needs
 
--- src/halving.rt:140:21
 add-right : tie.Need-add-right Inv-loop μ-loop
 add-right c = search needs
 
--- src/halving.rt:141:43
 add-second-smallest : tie.Need-add-second-smallest Inv-loop μ-loop
 add-second-smallest c = search needs
 
--- src/halving.rt:141:39
 shared-slice-read-second-smallest : tie.Need-shared-slice-read-second-smallest Inv-loop μ-loop
 shared-slice-read-second-smallest c = search needs
 
--- src/halving.rt:141:60
 add-second-smallest-2 : tie.Need-add-second-smallest-2 Inv-loop μ-loop
 add-second-smallest-2 c = search needs
 
--- src/halving.rt:141:56
 shared-slice-read-second-smallest-2 : tie.Need-shared-slice-read-second-smallest-2 Inv-loop μ-loop
 shared-slice-read-second-smallest-2 c = search needs
 
--- src/halving.rt:141:78
 add-second-smallest-3 : tie.Need-add-second-smallest-3 Inv-loop μ-loop
 add-second-smallest-3 c = search needs
 
--- src/halving.rt:141:74
 shared-slice-read-second-smallest-3 : tie.Need-shared-slice-read-second-smallest-3 Inv-loop μ-loop
 shared-slice-read-second-smallest-3 c = search needs
 
--- src/halving.rt:141:98
 add-second-smallest-4 : tie.Need-add-second-smallest-4 Inv-loop μ-loop
 add-second-smallest-4 c = search needs
 
--- src/halving.rt:141:94
 shared-slice-read-second-smallest-4 : tie.Need-shared-slice-read-second-smallest-4 Inv-loop μ-loop
 shared-slice-read-second-smallest-4 c = search needs
 
--- src/halving.rt:141:23
 second-smallest-requires : tie.Need-second-smallest-requires Inv-loop μ-loop
 second-smallest-requires c κs = search needs
 
--- src/halving.rt:141:13
 add-dst : tie.Need-add-dst Inv-loop μ-loop
 add-dst c = search needs
 
--- src/halving.rt:141:9
 slice-write-dst : tie.Need-slice-write-dst Inv-loop μ-loop
 slice-write-dst c = search needs
 
--- src/halving.rt:142:9
 add-k : tie.Need-add-k Inv-loop μ-loop
 add-k c = search needs
 
--- src/halving.rt:138:5
 loop-less : tie.Need-loop-less Inv-loop μ-loop
 loop-less c = search needs
 
--- src/halving.rt:138:5
 loop-again : tie.Need-loop-again Inv-loop μ-loop
 unfolding halfAt
 loop-again c =
     let lp = c .before .before .before .before .before .before .loop in
-    let a = c .before .before .before .before .before .before .before .before .before .args in
-    (
+    let a = c .before .before .before .before .before .before .before .before .before .args in (
       omega arith,
       row-more
-      _
-      (halfAt (a .src .now) (a .top) (a .bottom))
-      _
-      (lp .k)
-      (lp .dst)
-      (c .second-smallest .result)
-      (omega arith)
-      (lp .inv .1)
-      (c .second-smallest .ensures)
+          _
+          (halfAt (a .src .now) (a .top) (a .bottom))
+          _
+          (lp .k)
+          (lp .dst)
+          (c .second-smallest .result)
+          (omega arith)
+          (lp .inv .1)
+          (c .second-smallest .ensures),
     )
 
--- src/halving.rt:133:1
 same-length : tie.Need-same-length Inv-loop μ-loop
 same-length c = search needs
 
--- src/halving.rt:133:1
 returns : tie.Need-returns Inv-loop μ-loop
 returns c =
     let lp = c .before .loop in

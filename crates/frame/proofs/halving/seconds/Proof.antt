@@ -1,82 +1,66 @@
+-- The invariant: the first k columns are done. The length lets each store be in range.
 use mathlib.Core.Path.{_≡_, refl, _∙_}
 use Prim.Native.Nat.{_≤_, _-_}
+use native.Mathlib.Omega.{arith}
 use lib.ListN.{length, length-set}
+use borrow.Author.Needs.{needs}
 use Rattle.frame.specs.Places.{secondAt, Filled}
 use Rattle.frame.proofs.PlaceLaws.{filled-none, filled-more}
-use native.Mathlib.Omega.{arith}
-use borrow.Author.Needs.{needs}
 use Rattle.frame.proofs.halving.seconds.Statement.{statement}
 use Rattle.frame.proofs.halving.seconds.Tie as tie
-use Rattle.frame.proofs.halving.seconds.Reads as reads
-use Rattle.frame.proofs.halving.seconds.Lts as lts
-use Rattle.frame.proofs.halving.second.Reads as second-reads
 
 abbrev Inv-loop : tie.InvT-loop
-Inv-loop low high all₀ k₀ all k = (k ≤ 63) × (length all ≡ 64) × Filled (secondAt low high) k all
+Inv-loop low high all₀ k₀ all k = (k ≤ 64) × (length all ≡ 64) × Filled (secondAt low high) k all
 
 abbrev μ-loop : tie.MeasureT-loop
-μ-loop low high all₀ k₀ all k = 63 - k
+μ-loop low high all₀ k₀ all k = 64 - k
 
--- src/halving.rt:74:5
 loop-holds : tie.Need-loop-holds Inv-loop μ-loop
 loop-holds c = (omega arith, refl, filled-none _ _)
 
--- src/halving.rt:75:25
 element-copy-out-second : tie.Need-element-copy-out-second Inv-loop μ-loop
 element-copy-out-second c = search needs
 
--- src/halving.rt:75:37
 add-second : tie.Need-add-second Inv-loop μ-loop
 add-second c = search needs
 
--- src/halving.rt:75:33
 element-copy-out-second-2 : tie.Need-element-copy-out-second-2 Inv-loop μ-loop
 element-copy-out-second-2 c = search needs
 
--- src/halving.rt:75:45
 element-copy-out-second-3 : tie.Need-element-copy-out-second-3 Inv-loop μ-loop
 element-copy-out-second-3 c = search needs
 
--- src/halving.rt:75:59
 add-second-2 : tie.Need-add-second-2 Inv-loop μ-loop
 add-second-2 c = search needs
 
--- src/halving.rt:75:54
 element-copy-out-second-4 : tie.Need-element-copy-out-second-4 Inv-loop μ-loop
 element-copy-out-second-4 c = search needs
 
--- src/halving.rt:75:18
 second-requires : tie.Need-second-requires Inv-loop μ-loop
 second-requires c κs = search needs
 
--- src/halving.rt:75:9
 array-write-all : tie.Need-array-write-all Inv-loop μ-loop
 array-write-all c = search needs
 
--- src/halving.rt:76:9
 add-k : tie.Need-add-k Inv-loop μ-loop
 add-k c = search needs
 
--- src/halving.rt:74:5
 loop-less : tie.Need-loop-less Inv-loop μ-loop
 loop-less c = search needs
 
--- src/halving.rt:74:5
 loop-again : tie.Need-loop-again Inv-loop μ-loop
 unfolding secondAt
 loop-again c =
-    let lp = c .before .before .before .before .before .before .loop in
-    (
+    let lp = c .before .before .before .before .before .before .loop in (
       omega arith,
       length-set (lp .all) (lp .k) (c .second .result) ∙ lp .inv .1,
-      filled-more _ (lp .k) (lp .all) (c .second .result) (omega arith) (lp .inv .2) (c .second .ensures)
+      filled-more _ (lp .k) (lp .all) (c .second .result) (omega arith) (lp .inv .2) (c .second .ensures),
     )
 
--- src/halving.rt:69:1
 returns : tie.Need-returns Inv-loop μ-loop
 returns c =
     let lp = c .before .loop in
-    let e : lp .k ≡ 63 = omega arith in
+    let e : lp .k ≡ 64 = omega arith in
     rw e at (lp .inv .2)
 
 pub seconds-spec : {M : Type 1} → statement M

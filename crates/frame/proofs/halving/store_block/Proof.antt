@@ -1,14 +1,13 @@
+-- The invariant: the first k bytes are stored, and nothing else has changed.
 use mathlib.Core.Path.{_≡_, refl}
 use Prim.Native.Nat.{_≤_, _-_}
+use native.Mathlib.Omega.{arith}
 use lib.ListN.{getD}
+use borrow.Author.Needs.{needs}
 use Rattle.rules.proofs.FrameLaws.{RowAt, row-none, row-more}
 use Rattle.frame.specs.Places.{itemAt}
-use native.Mathlib.Omega.{arith}
-use borrow.Author.Needs.{needs}
 use Rattle.frame.proofs.halving.store_block.Statement.{statement}
 use Rattle.frame.proofs.halving.store_block.Tie as tie
-use Rattle.frame.proofs.halving.store_block.Reads as reads
-use Rattle.frame.proofs.halving.store_block.Lts as lts
 
 abbrev Inv-loop : tie.InvT-loop
 Inv-loop block dst₀ to k₀ dst k = (k ≤ 32) × RowAt to (itemAt block) dst₀ k dst
@@ -16,31 +15,24 @@ Inv-loop block dst₀ to k₀ dst k = (k ≤ 32) × RowAt to (itemAt block) dst�
 abbrev μ-loop : tie.MeasureT-loop
 μ-loop block dst₀ to k₀ dst k = 32 - k
 
--- src/halving.rt:111:5
 loop-holds : tie.Need-loop-holds Inv-loop μ-loop
 loop-holds c = (omega arith, row-none _ _ _)
 
--- src/halving.rt:112:23
 element-copy-out-dst : tie.Need-element-copy-out-dst Inv-loop μ-loop
 element-copy-out-dst c = search needs
 
--- src/halving.rt:112:13
 add-dst : tie.Need-add-dst Inv-loop μ-loop
 add-dst c = search needs
 
--- src/halving.rt:112:9
 slice-write-dst : tie.Need-slice-write-dst Inv-loop μ-loop
 slice-write-dst c = search needs
 
--- src/halving.rt:113:9
 add-k : tie.Need-add-k Inv-loop μ-loop
 add-k c = search needs
 
--- src/halving.rt:111:5
 loop-less : tie.Need-loop-less Inv-loop μ-loop
 loop-less c = search needs
 
--- src/halving.rt:111:5
 loop-again : tie.Need-loop-again Inv-loop μ-loop
 unfolding itemAt
 loop-again c =
@@ -48,11 +40,9 @@ loop-again c =
     let a = c .before .before .before .args in
     (omega arith, row-more _ (itemAt (a .block .now)) _ (lp .k) (lp .dst) (getD (a .block .now) (lp .k) 0) (omega arith) (lp .inv .1) refl)
 
--- src/halving.rt:106:1
 same-length : tie.Need-same-length Inv-loop μ-loop
 same-length c = search needs
 
--- src/halving.rt:106:1
 returns : tie.Need-returns Inv-loop μ-loop
 returns c =
     let lp = c .before .loop in
