@@ -3,3 +3,7 @@ pub mod SumLaws
 pub mod FrameLaws
 pub mod RefusalLaws
 pub mod GreyLaws
+pub mod ThresholdLaws
+pub mod DifferenceLaws
+pub mod BoundLaws
+pub mod ExampleLaws

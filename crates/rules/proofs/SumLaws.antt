@@ -2,7 +2,7 @@
 use mathlib.Core.Path.{_≡_, refl, sym, ap, ap₂, _∙_}
 use mathlib.Core.Bool.{Bool, true, false}
 use mathlib.Core.Logic.{_⊎_, inl, inr}
-use Prim.Native.Nat.{ℕ, zero, suc, _+_, _*_, _≤_, _<_}
+use Prim.Native.Nat.{ℕ, zero, suc, _+_, _*_, _-_, _≤_, _<_}
 use native.Mathlib.Decide.{decLt}
 use native.Mathlib.Nat.{lt-of-not-le, le-refl}
 use native.Mathlib.Numerals.{add-one}
@@ -54,6 +54,13 @@ sum-split m zero f = ap (λ (k : ℕ). sum k f) (native.Mathlib.Nat.add-zero m) 
 sum-split m (suc n) f =
     ap (λ (k : ℕ). sum k f) (native.Mathlib.Nat.add-suc m n) ∙ (let a = sum-split m n f in omega arith)
 
+-- the first m of n summands
+pub sum-part : (m n : ℕ) (f : ℕ → ℕ) → m ≤ n → sum m f ≤ sum n f
+sum-part m n f l =
+    let a = sum-split m (n - m) f in
+    let b : sum (m + (n - m)) f ≡ sum n f = ap (λ (k : ℕ). sum k f) (omega arith) in
+    omega arith
+
 pub pixels-ext : (w h : ℕ) (f g : ℕ → ℕ → ℕ) → ((x y : ℕ) → x < w → y < h → f x y ≡ g x y) → sumPixels w h f ≡ sumPixels w h g
 unfolding sumPixels
 pixels-ext w h f g e = sum-ext h (rowSum w f) (rowSum w g) (λ y l. sum-ext w (λ x. f x y) (λ x. g x y) (λ x k. e x y k l))
@@ -63,6 +70,31 @@ unfolding sumPixels
 pixels-le w h f e =
     sum-le h w (rowSum w f)
     (λ y l. let a = sum-le w 1 (λ x. f x y) (λ x k. e x y k l) in omega arith)
+
+sum-mono : (n : ℕ) (f g : ℕ → ℕ) → ((i : ℕ) → i < n → f i ≤ g i) → sum n f ≤ sum n g
+unfolding sum
+sum-mono zero f g e = le-refl 0
+sum-mono (suc n) f g e = let a = sum-mono n f g (λ i l. e i (omega arith)) in let b = e n (omega arith) in omega arith
+
+pub sum-all : (n b : ℕ) (f : ℕ → ℕ) → ((i : ℕ) → i < n → f i ≡ b) → sum n f ≡ n * b
+unfolding sum
+sum-all zero b f e = sym (native.Mathlib.Nat.zero-mul b)
+sum-all (suc n) b f e =
+    let a = sum-all n b f (λ i l. e i (omega arith)) in
+    let c = e n (omega arith) in
+    rw (native.Mathlib.Nat.suc-mul n b) (omega arith)
+
+pub pixels-mono : (w h : ℕ) (f g : ℕ → ℕ → ℕ) → ((x y : ℕ) → x < w → y < h → f x y ≤ g x y) → sumPixels w h f ≤ sumPixels w h g
+unfolding sumPixels
+pixels-mono w h f g e = sum-mono h (rowSum w f) (rowSum w g) (λ y l. sum-mono w (λ x. f x y) (λ x. g x y) (λ x k. e x y k l))
+
+pub pixels-all : (w h : ℕ) (f : ℕ → ℕ → ℕ) → ((x y : ℕ) → x < w → y < h → f x y ≡ 1) → sumPixels w h f ≡ h * w
+unfolding sumPixels
+pixels-all w h f e = sum-all h w (rowSum w f) (λ y l. sum-all w 1 (λ x. f x y) (λ x k. e x y k l) ∙ omega arith)
+
+pub pixels-zero : (w h : ℕ) (f : ℕ → ℕ → ℕ) → ((x y : ℕ) → x < w → y < h → f x y ≡ 0) → sumPixels w h f ≡ 0
+unfolding sumPixels
+pixels-zero w h f e = sum-zero h (rowSum w f) (λ y l. sum-zero w (λ x. f x y) (λ x k. e x y k l))
 
 -- a sum over the pixels of a frame that stands in a list is the sum over the list's places
 pub pixels-flat : (w h : ℕ) (g : ℕ → ℕ) → sumPixels w h (λ x y. g (y * w + x)) ≡ sum (h * w) g

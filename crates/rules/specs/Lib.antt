@@ -9,5 +9,7 @@ pub mod Bitmaps
 pub mod Differences
 pub mod Refusals
 pub mod Answers
+pub mod Levels
+pub mod Series
 pub mod Calls
 pub mod Examples

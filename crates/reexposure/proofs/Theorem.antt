@@ -1,0 +1,99 @@
+-- Demand 3 of the definitions, whole: any order of the candidates with steps of at most 1, any fair exclusion rule; then document 01's.
+use mathlib.Core.Path.{_≡_, refl, sym, ap, _∙_}
+use mathlib.Core.List.{List}
+use Prim.Native.Nat.{ℕ, suc, _+_, _*_, _-_, _/_, _^_, _≤_, _<_}
+use native.Mathlib.Omega.{arith}
+use lib.IntN.{ℤ, pos, natAbs}
+use lib.ListN.{getD, drop}
+use lib.Seq.{getD-drop}
+use Rattle.rules.specs.Greys.{grey, greyFrame}
+use Rattle.rules.specs.Planes.{distance}
+use Rattle.rules.specs.declared.Offset.{Offset}
+use Rattle.rules.specs.Levels.{Exclusion, wardOrder, byTolerance, pair}
+use Rattle.rules.specs.Series.{Settings, greyOf, pairOf, frameOffset, offsetList, Answer, answerOf, answerBy, seriesAnswer}
+use Rattle.reexposure.specs.Reexposure.{Reexposed, Bytes, Sound, Bounded, Demand3}
+use Rattle.reexposure.proofs.Links.{Link, Linked, Fair, fair-zero}
+use Rattle.reexposure.proofs.Pairs.{same-pair, answer-ext}
+use Rattle.rules.proofs.BoundLaws.{Near, Every, near-pair, near-ward, near-frame, offset-at}
+
+-- grey values that some pixel of frame k has in F and in F′
+record Seen (S : Settings) (F F′ : List ℕ) (k : ℕ) (v v′ : ℕ) : Type 0 where
+  x : ℕ
+  y : ℕ
+  inside-x : x < S .w
+  inside-y : y < S .h
+  here : greyOf S F k x y ≡ v
+  there : greyOf S F′ k x y ≡ v′
+
+grey-low : (r g b : ℕ) → r < 256 → g < 256 → b < 256 → grey r g b ≤ 255
+unfolding grey
+grey-low r g b k l m = omega arith
+
+low : (S : Settings) (F : List ℕ) → Bytes F → (k x y : ℕ) → greyOf S F k x y ≤ 255
+unfolding greyOf greyFrame
+low S F bytes k x y = grey-low (at (3 * (y * S .w + x))) (at (3 * (y * S .w + x) + 1)) (at (3 * (y * S .w + x) + 2)) (byte _) (byte _) (byte _)
+  where
+    at : ℕ → ℕ
+    at i = getD (drop (k * (3 * (S .w * S .h))) F) i 0
+
+    byte : (i : ℕ) → at i < 256
+    byte i = rw (getD-drop (k * (3 * (S .w * S .h))) F i 0) (bytes (k * (3 * (S .w * S .h)) + i))
+
+seen-link : (S : Settings) (F F′ : List ℕ) → Bytes F → Bytes F′ → Reexposed S F F′ → (k : ℕ) → k < S .frames → Link (Seen S F F′ k)
+seen-link S F F′ bytes bytes′ alike k l = record {
+  alike = λ v v′ u u′ p q.
+      rw (← p .here, ← p .there, ← q .here, ← q .there) (alike .alike k l (p .x) (p .y) (q .x) (q .y) (p .inside-x) (p .inside-y) (q .inside-x) (q .inside-y));
+  low = λ v v′ p. rw (← p .here) (low S F bytes k (p .x) (p .y));
+  low′ = λ v v′ p. rw (← p .there) (low S F′ bytes′ k (p .x) (p .y));
+}
+
+seen : (S : Settings) (F F′ : List ℕ) (k : ℕ) → Linked (Seen S F F′ k) (S .w) (S .h) (greyOf S F k) (greyOf S F′ k)
+seen S F F′ k x y l m = record { x = x; y = y; inside-x = l; inside-y = m; here = refl; there = refl }
+
+-- every re-exposed series has the same answer
+pub same-answer : (order : List Offset) (exclusion : Exclusion) (S : Settings) (F F′ : List ℕ) → Sound S
+    → ((p : ℕ) → 1 ≤ p → p ≤ 99 → Fair exclusion p) → Bytes F → Bytes F′ → Reexposed S F F′
+    → answerBy order exclusion S F ≡ answerBy order exclusion S F′
+unfolding answerBy pairOf
+same-answer order exclusion S F F′ sound fair bytes bytes′ alike =
+    answer-ext (S .frames) (S .reference)
+    (pairOf (λ p. pair order exclusion p (S .halvings) (S .w) (S .h)) (S .percentiles) (greyOf S F))
+    (pairOf (λ p. pair order exclusion p (S .halvings) (S .w) (S .h)) (S .percentiles) (greyOf S F′))
+    (sound .reference)
+    (λ k l.
+    let p : ℕ = getD (S .percentiles) k 0 in
+    let fits = sound .percentile k (omega arith) in
+    same-pair order exclusion p (fair p (fits .0) (fits .1)) (fits .0) (fits .1) (Seen S F F′ k) (Seen S F F′ (k + 1))
+    (seen-link S F F′ bytes bytes′ alike k (omega arith))
+    (seen-link S F F′ bytes bytes′ alike (k + 1) (omega arith))
+    (S .halvings) (S .w) (S .h) (greyOf S F k) (greyOf S F′ k) (greyOf S F (k + 1)) (greyOf S F′ (k + 1))
+    (seen S F F′ k) (seen S F F′ (k + 1)))
+
+-- every answer is bounded
+pub bounded : (order : List Offset) → Every (Near 1) order → (exclusion : Exclusion) (S : Settings) (F : List ℕ) → S .reference < S .frames
+    → Bounded S (answerBy order exclusion S F)
+unfolding answerBy answerOf pairOf
+bounded order steps exclusion S F reference = record {
+  dx = λ k l. rw (offset-at (S .frames) offset k l .0) (near k l .dx);
+  dy = λ k l. rw (offset-at (S .frames) offset k l .1) (near k l .dy);
+}
+  where
+    d : ℕ → Offset
+    d j = pairOf (λ p. pair order exclusion p (S .halvings) (S .w) (S .h)) (S .percentiles) (greyOf S F) j .offset
+
+    offset : ℕ → Offset
+    offset = frameOffset d (S .reference)
+
+    near : (k : ℕ) → k < S .frames → Near (distance k (S .reference) * (2 ^ suc (S .halvings) - 1)) (offset k)
+    near k l =
+        near-frame (2 ^ suc (S .halvings) - 1) d (S .frames - 1) (S .reference) k (omega arith) (omega arith)
+        (λ j i. near-pair order steps exclusion (getD (S .percentiles) j 0) (S .halvings) (S .w) (S .h) (greyOf S F j) (greyOf S F (j + 1)))
+
+-- THE THEOREM (its statement is `Demand3` in specs/Reexposure.antt).
+pub demand3 : Demand3
+unfolding seriesAnswer
+demand3 S F F′ sound tolerance bytes bytes′ alike = record {
+  same = same-answer wardOrder (byTolerance (S .tolerance)) S F F′ sound (λ p a b. fair-zero (S .tolerance) p tolerance a b) bytes bytes′ alike;
+  bound = bounded wardOrder near-ward (byTolerance (S .tolerance)) S F (sound .reference);
+  bound′ = bounded wardOrder near-ward (byTolerance (S .tolerance)) S F′ (sound .reference);
+}

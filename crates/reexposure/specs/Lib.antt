@@ -1,0 +1,2 @@
+-- What the re-exposure theorem says.
+pub mod Reexposure

@@ -1,0 +1,39 @@
+-- Demand 3, of the definitions: re-exposed series have the same pixel-by-pixel answer, and their offsets are bounded.
+use mathlib.Core.Path.{_≡_}
+use mathlib.Core.List.{List}
+use Prim.Native.Nat.{ℕ, suc, _+_, _*_, _-_, _^_, _≤_, _<_, compare}
+use lib.IntN.{pos, natAbs}
+use lib.ListN.{getD}
+use Rattle.rules.specs.Planes.{distance}
+use Rattle.rules.specs.declared.Offset.{Offset}
+use Rattle.rules.specs.Levels.{Exclusion}
+use Rattle.rules.specs.Series.{Settings, greyOf, Answer, answerBy, seriesAnswer}
+
+-- "for each frame and any two of its pixels, their full-size grey values compare in F' as in F": darker, equal or brighter
+pub record Reexposed (S : Settings) (F F′ : List ℕ) : Type 0 where
+  pub alike : (k : ℕ) → k < S .frames → (x y u v : ℕ) → x < S .w → y < S .h → u < S .w → v < S .h
+      → compare (greyOf S F k x y) (greyOf S F k u v) ≡ compare (greyOf S F′ k x y) (greyOf S F′ k u v)
+
+-- rasters hold bytes
+abbrev pub Bytes : List ℕ → Type 0
+Bytes F = (i : ℕ) → getD F i 0 < 256
+
+-- what the theorem needs of accepted settings: the reference is a frame, and each pair has a percentile from 1 to 99
+pub record Sound (S : Settings) : Type 0 where
+  pub reference : S .reference < S .frames
+  pub percentile : (k : ℕ) → k + 1 < S .frames → (1 ≤ getD (S .percentiles) k 0) × (getD (S .percentiles) k 0 ≤ 99)
+
+-- "frame k's offset is in size at most |k−r|·(2^(s+1)−1) on each axis", of an answer's list: dx at place 2k, dy at 2k + 1
+pub record Bounded (S : Settings) (answer : Answer) : Type 0 where
+  pub dx : (k : ℕ) → k < S .frames → natAbs (getD (answer .offsets) (2 * k) (pos 0)) ≤ distance k (S .reference) * (2 ^ suc (S .halvings) - 1)
+  pub dy : (k : ℕ) → k < S .frames → natAbs (getD (answer .offsets) (2 * k + 1) (pos 0)) ≤ distance k (S .reference) * (2 ^ suc (S .halvings) - 1)
+
+-- what holds of a series F and of F′, F re-exposed: the same answer, offsets and counts, and both bounded
+pub record Alike (S : Settings) (F F′ : List ℕ) : Type 0 where
+  pub same : seriesAnswer S F ≡ seriesAnswer S F′
+  pub bound : Bounded S (seriesAnswer S F)
+  pub bound′ : Bounded S (seriesAnswer S F′)
+
+-- Demand 3 of the definitions: one statement about whole series and every re-exposed one (proved in proofs/Theorem.antt as `demand3`)
+abbrev pub Demand3 : Type 0
+Demand3 = (S : Settings) (F F′ : List ℕ) → Sound S → S .tolerance ≡ 0 → Bytes F → Bytes F′ → Reexposed S F F′ → Alike S F F′

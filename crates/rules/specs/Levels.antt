@@ -1,0 +1,81 @@
+-- Pair alignment, level by level: candidates, first least, doubling. The order of the nine candidates and the exclusion rule are parameters.
+use mathlib.Core.Bool.{Bool, cond}
+use mathlib.Core.List.{List, [], _∷_, _++_, map}
+use Prim.Native.Nat.{ℕ, zero, suc, _/_}
+use lib.Dec.{ltb}
+use lib.IntN.{ℤ, pos, negsuc, _+ℤ_}
+use Rattle.rules.specs.declared.Offset.{Offset}
+use Rattle.rules.specs.Frames.{Frame}
+use Rattle.rules.specs.Greys.{halved}
+use Rattle.rules.specs.Thresholds.{threshold}
+use Rattle.rules.specs.Planes.{thresholdBit, exclusionBit, bitsBy}
+use Rattle.rules.specs.Differences.{Planes, difference}
+
+-- "Offset (dx,dy) moves a frame right by dx and down by dy."
+abbrev pub still : Offset
+still = record { dx = pos 0; dy = pos 0 }
+
+abbrev pub added : Offset → Offset → Offset
+added a b = record { dx = a .dx +ℤ b .dx; dy = a .dy +ℤ b .dy }
+
+-- "i from −1 to 1 outside, j from −1 to 1 inside"
+abbrev pub wardOrder : List Offset
+wardOrder =
+    step (negsuc 0) (negsuc 0) ∷ step (negsuc 0) (pos 0) ∷ step (negsuc 0) (pos 1)
+    ∷ step (pos 0) (negsuc 0) ∷ step (pos 0) (pos 0) ∷ step (pos 0) (pos 1)
+    ∷ step (pos 1) (negsuc 0) ∷ step (pos 1) (pos 0) ∷ step (pos 1) (pos 1) ∷ []
+  where
+    step : ℤ → ℤ → Offset
+    step i j = record { dx = i; dy = j }
+
+-- A rule for the exclusion bit of a grey value, from the level's thresholds (one for each percentile) and the pair's percentile.
+abbrev pub Exclusion : Type 0
+Exclusion = (ℕ → ℕ) → ℕ → ℕ → ℕ
+
+-- document 01's rule: by the tolerance T
+abbrev pub byTolerance : ℕ → Exclusion
+byTolerance tolerance thresholds percentile v = exclusionBit (thresholds percentile) tolerance v
+
+-- "Each level takes its threshold afresh": the two planes of a level's grey frame
+unfoldable pub planesBy : Exclusion → ℕ → ℕ → ℕ → Frame → Planes
+planesBy exclusion percentile w h f =
+    record {
+      threshold = bitsBy (thresholdBit (threshold w h percentile f)) f;
+      exclusion = bitsBy (exclusion (λ p. threshold w h p f) percentile) f;
+    }
+
+-- "The first with the least count" of best and the others after it
+unfoldable pub firstLeast : (Offset → ℕ) → Offset → List Offset → Offset
+firstLeast count best [] = best
+firstLeast count best (m ∷ ms) = firstLeast count (cond (ltb (count m) (count best)) m best) ms
+
+-- the same of a list of candidates
+unfoldable pub chosen : (Offset → ℕ) → List Offset → Offset
+chosen count [] = still
+chosen count (m ∷ ms) = firstLeast count m ms
+
+-- the answer of a level and those below it: the offset, and the counts, "coarsest level first, in candidate order"
+pub record Aligned : Type 0 where
+  pub offset : Offset
+  pub counts : List ℕ
+
+-- "With centre (cx,cy) the nine candidates are (cx+i, cy+j)": the level's answer after the coarser counts.
+-- Candidates are preferred in the given order; counts are written in Ward's.
+unfoldable pub level : List Offset → (Offset → ℕ) → Offset → List ℕ → Aligned
+level order count centre coarser =
+    record {
+      offset = chosen count (map (added centre) order);
+      counts = coarser ++ map count (map (added centre) wardOrder);
+    }
+
+-- the difference count of two grey frames at a candidate, "both frames with the same P"
+unfoldable pub countAt : Exclusion → ℕ → ℕ → ℕ → Frame → Frame → Offset → ℕ
+countAt exclusion percentile w h a b m =
+    difference w h (m .dx) (m .dy) (planesBy exclusion percentile w h a) (planesBy exclusion percentile w h b)
+
+-- "A level's answer rests on that of the next coarser one, doubled; below the coarsest it is (0,0)." s halvings, so s + 1 levels.
+unfoldable pub pair : List Offset → Exclusion → ℕ → ℕ → ℕ → ℕ → Frame → Frame → Aligned
+pair order exclusion percentile zero w h a b = level order (countAt exclusion percentile w h a b) still []
+pair order exclusion percentile (suc s) w h a b =
+    let coarse = pair order exclusion percentile s (w / 2) (h / 2) (halved a) (halved b) in
+    level order (countAt exclusion percentile w h a b) (added (coarse .offset) (coarse .offset)) (coarse .counts)
