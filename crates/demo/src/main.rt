@@ -1,8 +1,6 @@
 // Document 01's printed case, step by step through the offered calls: two frames of 4 by 4, their
 // thresholds and bitmaps, and the difference counts of the nine candidates around (0, 0).
 
-ghost use mathlib.Core.Path.{_≡_};
-ghost use lib.ListN.{length};
 use libc::STDOUT_FILENO;
 use rules::Counted;
 use rules::Thresholded;
@@ -65,8 +63,12 @@ fn say(text: &[u8]) {
     io::write_all(STDOUT_FILENO, text);
 }
 
+fn end_line() {
+    say(b"\n");
+}
+
 fn say_number(n: u64) {
-    io::number::print_decimal(STDOUT_FILENO, n);
+    io::print_decimal(STDOUT_FILENO, n);
     say(b" ");
 }
 
@@ -120,11 +122,16 @@ fn refused(n: u32) {
 fn show_grey(grey: &[u8; 16]) {
     let mut i: usize = 0;
     while i < 16 {
-        say_number(grey[i] as u64);
-        if i % SIDE == SIDE - 1 {
-            say(b"\n");
-        }
+        show_value(grey[i], i);
         i += 1;
+    }
+}
+
+// A grey value, and the end of its line where it is a row's last.
+fn show_value(value: u8, i: usize) {
+    say_number(value as u64);
+    if i % SIDE == 3 {
+        end_line();
     }
 }
 
@@ -136,19 +143,23 @@ fn show_bits(bitmap: &[u64; 4]) {
     }
 }
 
+fn show_pixel(bit: u64) {
+    if bit == 1 {
+        say(b"#");
+    } else {
+        say(b".");
+    }
+}
+
 fn show_row(word: u64) {
     let mut rest = word;
     let mut x: usize = 0;
     while x < SIDE {
-        if rest % 2 == 1 {
-            say(b"#");
-        } else {
-            say(b".");
-        }
+        show_pixel(rest % 2);
         rest = rest / 2;
         x += 1;
     }
-    say(b"\n");
+    end_line();
 }
 
 fn show_counts(

@@ -2,7 +2,6 @@
 
 use crate::gather::gather_word;
 use crate::outside::flags_of;
-
 ghost use mathlib.Core.Path.{_≡_};
 ghost use Prim.Native.Nat.{_+_, _*_, _≤_};
 ghost use lib.ListN.{length};
@@ -20,7 +19,16 @@ fn pack_word(grey: &[u8], at: usize, n: usize, lo: u8, hi: u8) -> u64
 }
 
 // The words of the first `full` blocks of 64 pixels of a row.
-fn pack_blocks(grey: &[u8], from: usize, w: usize, full: usize, lo: u8, hi: u8, out: &mut [u64], to: usize)
+fn pack_blocks(
+    grey: &[u8],
+    from: usize,
+    w: usize,
+    full: usize,
+    lo: u8,
+    hi: u8,
+    out: &mut [u64],
+    to: usize,
+)
     requires { ⌜ (from + w ≤ length (now grey)) × (full * 64 ≤ w) × (to + full ≤ length (now out)) ⌝ }
     ensures { λ _. ⌜ RowAt to (outsideWord lo hi (now (grey .entry)) from w) (now (out .entry)) full (now (out .exit)) ⌝ }
 {

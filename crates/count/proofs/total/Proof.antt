@@ -27,7 +27,7 @@ returns c =
     (t .ensures) (c .if1 .taken)
 
 total-frame-requires : tie.Need-total-frame-requires
-total-frame-requires c κs = 
+total-frame-requires c κs =
     let a = c .before .before .before .before .args in
     let k = total-ok (a .w) (a .h) (length (a .bitmap .now)) (sym (c .before .before .total-refusal .ensures) ∙ c .before .if1 .left) in
     (omega arith, (omega arith, (omega arith, (omega arith, counts-ones))))

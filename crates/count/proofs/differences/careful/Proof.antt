@@ -37,9 +37,14 @@ add-count c =
     let s = c .before .before .before .before .before .before .before in
     let a = s .args in
     let l = c .before .before .loop in
-    omega (arith, s, row-words-le (a .m .w) (s .pre .0 .width), adds-le (movedDiffer (a .t1 .now) (a .e1 .now) (a .t2 .now) (a .e2 .now) (a .base) (a .from) (a .m)) (a .first) (l .k + 1) (l .count + c .careful-word .result)
-    (rowDiffer-lt (a .t1 .now) (a .e1 .now) (a .t2 .now) (a .e2 .now) (a .base) (a .from) (a .m .w) (a .m .q * 64 + a .m .r))
-    (adds-more (movedDiffer (a .t1 .now) (a .e1 .now) (a .t2 .now) (a .e2 .now) (a .base) (a .from) (a .m)) (a .first) (l .k) (l .k + 1) (l .count) (c .careful-word .result) (l .inv .1 .1) (c .careful-word .ensures)))
+    omega (
+      arith,
+      s,
+      row-words-le (a .m .w) (s .pre .0 .width),
+      adds-le (movedDiffer (a .t1 .now) (a .e1 .now) (a .t2 .now) (a .e2 .now) (a .base) (a .from) (a .m)) (a .first) (l .k + 1) (l .count + c .careful-word .result)
+          (rowDiffer-lt (a .t1 .now) (a .e1 .now) (a .t2 .now) (a .e2 .now) (a .base) (a .from) (a .m .w) (a .m .q * 64 + a .m .r))
+          (adds-more (movedDiffer (a .t1 .now) (a .e1 .now) (a .t2 .now) (a .e2 .now) (a .base) (a .from) (a .m)) (a .first) (l .k) (l .k + 1) (l .count) (c .careful-word .result) (l .inv .1 .1) (c .careful-word .ensures)),
+    )
 
 -- src/differences.rt:185:9
 add-k : tie.Need-add-k Inv-loop μ-loop
@@ -53,9 +58,13 @@ loop-less c = search needs
 loop-again : tie.Need-loop-again Inv-loop μ-loop
 loop-again c =
     let a = c .before .before .before .before .before .before .before .args in
-    let l = c .before .before .loop in
-    (omega arith, (omega arith,
-    adds-more (movedDiffer (a .t1 .now) (a .e1 .now) (a .t2 .now) (a .e2 .now) (a .base) (a .from) (a .m)) (a .first) (l .k) (l .k + 1) (l .count) (c .careful-word .result) (l .inv .1 .1) (c .careful-word .ensures)))
+    let l = c .before .before .loop in (
+      omega arith,
+      (
+        omega arith,
+        adds-more (movedDiffer (a .t1 .now) (a .e1 .now) (a .t2 .now) (a .e2 .now) (a .base) (a .from) (a .m)) (a .first) (l .k) (l .k + 1) (l .count) (c .careful-word .result) (l .inv .1 .1) (c .careful-word .ensures),
+      ),
+    )
 
 -- src/differences.rt:163:1
 returns : tie.Need-returns Inv-loop μ-loop

@@ -78,9 +78,11 @@ loop-again : tie.Need-loop-again Inv-loop μ-loop
 loop-again c =
     let a = c .before .before .before .before .before .before .before .before .before .before .args in
     let m = c .before .before .before .before .move-by .result in
-    let l = c .before .before .loop in
-    (omega arith, rows-more (lineDiffer (a .t1 .now) (a .e1 .now) (a .t2 .now) (a .e2 .now) (m .w) (a .h) (m .q * 64 + m .r) (c .before .before .before .biased2 .result)) (l .y) (l .count)
-    (c .line-difference .result) (l .inv .1) (c .line-difference .ensures))
+    let l = c .before .before .loop in (
+      omega arith,
+      rows-more (lineDiffer (a .t1 .now) (a .e1 .now) (a .t2 .now) (a .e2 .now) (m .w) (a .h) (m .q * 64 + m .r) (c .before .before .before .biased2 .result)) (l .y) (l .count)
+          (c .line-difference .result) (l .inv .1) (c .line-difference .ensures),
+    )
 
 -- src/differences.rt:244:1
 returns : tie.Need-returns Inv-loop μ-loop

@@ -61,11 +61,16 @@ returns : tie.Need-returns
 returns c =
     let s = c .before .before .before .before .before in
     let n = c .before .before .before .before .row-words in
-    let e = c .before .before .lower in
-    (refl, (omega arith, moves
-    (record { w = s .args .w; n = n .result; q = s .args .d / 64; r = s .args .d % 64; first = c .lower2 .result; end = e .result })
-    (s .args .d) (s .pre .0) (s .pre .1 .0) (n .ensures) refl refl
-    (rw (c .before .before .before .upper .ensures) at (e .ensures)) (rw (c .before .upper2 .ensures) at (c .lower2 .ensures))))
+    let e = c .before .before .lower in (
+      refl,
+      (
+        omega arith,
+        moves
+            (record { w = s .args .w; n = n .result; q = s .args .d / 64; r = s .args .d % 64; first = c .lower2 .result; end = e .result })
+            (s .args .d) (s .pre .0) (s .pre .1 .0) (n .ensures) refl refl
+            (rw (c .before .before .before .upper .ensures) at (e .ensures)) (rw (c .before .upper2 .ensures) at (c .lower2 .ensures)),
+      ),
+    )
 
 pub move-by-spec : {M : Type 1} → statement M
 move-by-spec =

@@ -28,9 +28,14 @@ add-result c =
     let a = s .args in
     let m = s .pre .0 in
     let x = c .before .careful in
-    omega (arith, row-words-le (a .m .w) (m .width), m, adds-le (movedDiffer (a .t1 .now) (a .e1 .now) (a .t2 .now) (a .e2 .now) (a .base) (a .from) (a .m)) 0 (a .m .end) (x .result + c .interior .result)
-    (rowDiffer-lt (a .t1 .now) (a .e1 .now) (a .t2 .now) (a .e2 .now) (a .base) (a .from) (a .m .w) (a .m .q * 64 + a .m .r))
-    (adds-more (movedDiffer (a .t1 .now) (a .e1 .now) (a .t2 .now) (a .e2 .now) (a .base) (a .from) (a .m)) 0 (a .m .first) (a .m .end) (x .result) (c .interior .result) (x .ensures) (c .interior .ensures)))
+    omega (
+      arith,
+      row-words-le (a .m .w) (m .width),
+      m,
+      adds-le (movedDiffer (a .t1 .now) (a .e1 .now) (a .t2 .now) (a .e2 .now) (a .base) (a .from) (a .m)) 0 (a .m .end) (x .result + c .interior .result)
+          (rowDiffer-lt (a .t1 .now) (a .e1 .now) (a .t2 .now) (a .e2 .now) (a .base) (a .from) (a .m .w) (a .m .q * 64 + a .m .r))
+          (adds-more (movedDiffer (a .t1 .now) (a .e1 .now) (a .t2 .now) (a .e2 .now) (a .base) (a .from) (a .m)) 0 (a .m .first) (a .m .end) (x .result) (c .interior .result) (x .ensures) (c .interior .ensures)),
+    )
 
 -- src/differences.rt:208:11
 careful-requires-2 : tie.Need-careful-requires-2
@@ -53,8 +58,13 @@ add-result-2 : tie.Need-add-result-2
 add-result-2 c =
     let s = c .before .before .before .before .before .before .before in
     let a = s .args in
-    omega (arith, s .pre .0, whole c, bits-le (a .m .w) (movedDiffer (a .t1 .now) (a .e1 .now) (a .t2 .now) (a .e2 .now) (a .base) (a .from) (a .m))
-    (rowDiffer-lt (a .t1 .now) (a .e1 .now) (a .t2 .now) (a .e2 .now) (a .base) (a .from) (a .m .w) (a .m .q * 64 + a .m .r)))
+    omega (
+      arith,
+      s .pre .0,
+      whole c,
+      bits-le (a .m .w) (movedDiffer (a .t1 .now) (a .e1 .now) (a .t2 .now) (a .e2 .now) (a .base) (a .from) (a .m))
+          (rowDiffer-lt (a .t1 .now) (a .e1 .now) (a .t2 .now) (a .e2 .now) (a .base) (a .from) (a .m .w) (a .m .q * 64 + a .m .r)),
+    )
 
 -- src/differences.rt:191:1
 returns : tie.Need-returns

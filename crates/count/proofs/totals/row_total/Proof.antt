@@ -22,8 +22,11 @@ so-far : (c : tie.At-loop Inv-loop μ-loop) → c .loop .count ≤ 4096
 so-far c =
     let s = c .before .before in
     let a = s .args in
-    omega (arith, adds-le (rowBit (a .bitmap .now) (a .base) (a .w)) 0 (c .loop .k) (c .loop .count) (rowBit-lt (a .bitmap .now) (a .base) (a .w)) (c .loop .inv .1),
-    row-words-le (a .w) (s .pre .0))
+    omega (
+      arith,
+      adds-le (rowBit (a .bitmap .now) (a .base) (a .w)) 0 (c .loop .k) (c .loop .count) (rowBit-lt (a .bitmap .now) (a .base) (a .w)) (c .loop .inv .1),
+      row-words-le (a .w) (s .pre .0),
+    )
 
 -- src/totals.rt:28:5
 loop-holds : tie.Need-loop-holds Inv-loop μ-loop
@@ -65,9 +68,11 @@ loop-again : tie.Need-loop-again Inv-loop μ-loop
 loop-again c =
     let s = c .before .before .before .before .before in
     let a = s .args in
-    let l = c .before .before .before .loop in
-    (omega arith, word-next (rowBit (a .bitmap .now) (a .base) (a .w)) 0 (l .k) (l .count) (getD (a .bitmap .now) (a .base + l .k) 0) (c .word-ones .result) (l .inv .1)
-    (full-word (a .bitmap .now) (a .base) (a .w) (l .k) (omega arith)) (c .word-ones .ensures))
+    let l = c .before .before .before .loop in (
+      omega arith,
+      word-next (rowBit (a .bitmap .now) (a .base) (a .w)) 0 (l .k) (l .count) (getD (a .bitmap .now) (a .base + l .k) 0) (c .word-ones .result) (l .inv .1)
+          (full-word (a .bitmap .now) (a .base) (a .w) (l .k) (omega arith)) (c .word-ones .ensures),
+    )
 
 -- src/totals.rt:32:23
 row-word-requires : tie.Need-row-word-requires Inv-loop μ-loop

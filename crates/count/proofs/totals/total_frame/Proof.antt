@@ -38,17 +38,27 @@ mul-row-total : tie.Need-mul-row-total Inv-loop μ-loop
 mul-row-total c =
     let s = c .before .before .before .before in
     let a = s .args in
-    omega (arith, row-room (c .before .before .row-words .result) (a .w) (a .h) (c .before .loop .y) (length (a .bitmap .now))
-    (c .before .before .row-words .ensures) (s .pre .1 .1 .1 .0) (omega arith))
+    omega (
+      arith,
+      row-room (c .before .before .row-words .result) (a .w) (a .h) (c .before .loop .y) (length (a .bitmap .now))
+          (c .before .before .row-words .ensures) (s .pre .1 .1 .1 .0) (omega arith),
+    )
 
 -- src/totals.rt:47:18
 row-total-requires : tie.Need-row-total-requires Inv-loop μ-loop
 row-total-requires c κs =
     let s = c .before .before .before .before in
-    let a = s .args in
-    (s .pre .1 .0, (omega (arith, row-words-some (a .w) (s .pre .0)),
-    (row-room (c .before .before .row-words .result) (a .w) (a .h) (c .before .loop .y) (length (a .bitmap .now))
-    (c .before .before .row-words .ensures) (s .pre .1 .1 .1 .0) (omega arith), s .pre .1 .1 .1 .1)))
+    let a = s .args in (
+      s .pre .1 .0,
+      (
+        omega (arith, row-words-some (a .w) (s .pre .0)),
+        (
+          row-room (c .before .before .row-words .result) (a .w) (a .h) (c .before .loop .y) (length (a .bitmap .now))
+              (c .before .before .row-words .ensures) (s .pre .1 .1 .1 .0) (omega arith),
+          s .pre .1 .1 .1 .1,
+        ),
+      ),
+    )
 
 -- src/totals.rt:47:9
 add-count : tie.Need-add-count Inv-loop μ-loop
@@ -57,8 +67,11 @@ add-count c =
     let a = s .args in
     let l = c .before .before .loop in
     let b = l .y * c .before .before .before .row-words .result in
-    omega (arith, rows-le (rowSum (a .w) (bitAt (a .w) (a .h) (a .bitmap .now))) (l .y) (λ z. total-row-le (a .w) (a .h) z (a .bitmap .now) (s .pre .1 .0)),
-    bits-le (a .w) (rowBit (a .bitmap .now) b (a .w)) (rowBit-lt (a .bitmap .now) b (a .w)))
+    omega (
+      arith,
+      rows-le (rowSum (a .w) (bitAt (a .w) (a .h) (a .bitmap .now))) (l .y) (λ z. total-row-le (a .w) (a .h) z (a .bitmap .now) (s .pre .1 .0)),
+      bits-le (a .w) (rowBit (a .bitmap .now) b (a .w)) (rowBit-lt (a .bitmap .now) b (a .w)),
+    )
 
 -- src/totals.rt:48:9
 add-y : tie.Need-add-y Inv-loop μ-loop
@@ -73,9 +86,11 @@ loop-again : tie.Need-loop-again Inv-loop μ-loop
 loop-again c =
     let a = c .before .before .before .before .before .args in
     let l = c .before .before .loop in
-    let n = c .before .before .before .row-words in
-    (omega arith, rows-more (rowSum (a .w) (bitAt (a .w) (a .h) (a .bitmap .now))) (l .y) (l .count) (c .row-total .result) (l .inv .1)
-    (c .row-total .ensures ∙ total-row (a .w) (a .h) (l .y) (l .y * n .result) (a .bitmap .now) (omega arith) (ap (λ (m : ℕ). l .y * m) (n .ensures))))
+    let n = c .before .before .before .row-words in (
+      omega arith,
+      rows-more (rowSum (a .w) (bitAt (a .w) (a .h) (a .bitmap .now))) (l .y) (l .count) (c .row-total .result) (l .inv .1)
+          (c .row-total .ensures ∙ total-row (a .w) (a .h) (l .y) (l .y * n .result) (a .bitmap .now) (omega arith) (ap (λ (m : ℕ). l .y * m) (n .ensures))),
+    )
 
 -- src/totals.rt:35:1
 returns : tie.Need-returns Inv-loop μ-loop

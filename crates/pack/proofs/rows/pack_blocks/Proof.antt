@@ -60,10 +60,11 @@ loop-less c = search needs
 loop-again : tie.Need-loop-again Inv-loop μ-loop
 loop-again c =
     let a = c .before .before .before .before .before .args in
-    let L = c .before .before .loop in
-    (omega arith,
-    row-more (a .to) (outsideWord (a .lo) (a .hi) (a .grey .now) (a .from) (a .w)) (a .out .now) (L .k) (L .out) (c .pack-word .result)
-    (omega arith) (L .inv .1) (c .pack-word .ensures ∙ word-of-flags (a .lo) (a .hi) (a .grey .now) (a .from) (a .w) (L .k) 64 (omega arith)))
+    let L = c .before .before .loop in (
+      omega arith,
+      row-more (a .to) (outsideWord (a .lo) (a .hi) (a .grey .now) (a .from) (a .w)) (a .out .now) (L .k) (L .out) (c .pack-word .result)
+          (omega arith) (L .inv .1) (c .pack-word .ensures ∙ word-of-flags (a .lo) (a .hi) (a .grey .now) (a .from) (a .w) (L .k) 64 (omega arith)),
+    )
 
 -- src/rows.rt:23:1
 same-length : tie.Need-same-length Inv-loop μ-loop
