@@ -1,41 +1,24 @@
--- Frames that go together have the same pair answer, for any order of the candidates and any fair exclusion rule.
-use mathlib.Core.Path.{_≡_, refl, ap, ap₂, _∙_, fun-ext}
+-- Frames that go together have the same pair answer, for any order of the candidates and any fair exclusion rule; and series with the same pair answers the same answer.
+use mathlib.Core.Path.{_≡_, refl, ap, ap₂}
 use mathlib.Core.Bool.{Bool, true, false, cond}
 use mathlib.Core.List.{List, [], _∷_, _++_}
-use Prim.Native.Nat.{ℕ, zero, suc, _+_, _-_, _/_, _≤_, _<_}
+use Prim.Native.Nat.{ℕ, zero, suc, _+_, _-_, _≤_, _<_}
 use native.Mathlib.Omega.{arith}
 use lib.Dec.{leb}
 use lib.IntN.{ℤ}
 use borrow.Author.Tests.{leb-true, leb-false}
-use Rattle.rules.specs.Frames.{Frame}
-use Rattle.rules.specs.Greys.{halved}
-use Rattle.rules.specs.Differences.{difference}
 use Rattle.rules.specs.declared.Offset.{Offset}
-use Rattle.rules.specs.Levels.{still, added, Exclusion, planesBy, Aligned, level, countAt, pair}
-use Rattle.rules.specs.Series.{sumFrom, opposite, frameOffset, offsetList, countList, Answer, answerOf}
-use Rattle.rules.proofs.DifferenceLaws.{difference-ext}
+use Rattle.rules.specs.Levels.{added, Exclusion, Aligned}
+use Rattle.rules.specs.Series.{sumFrom, opposite, frameOffset, offsetList, countList, answerOf}
+use Rattle.rules.proofs.PairLaws.{Kept}
 use Rattle.reexposure.proofs.Links.{Link, Linked, link-halve, Fair, same-planes}
 
-module _ (order : List Offset) (exclusion : Exclusion) (percentile : ℕ) (fair : Fair exclusion percentile) (some : 1 ≤ percentile) (most : percentile ≤ 99) (Q R : ℕ → ℕ → Type 0) (q : Link Q) (r : Link R) where
-  same-counts : (w h : ℕ) (a a′ b b′ : Frame) → Linked Q w h a a′ → Linked R w h b b′
-      → countAt exclusion percentile w h a b ≡ countAt exclusion percentile w h a′ b′
-  unfolding countAt
-  same-counts w h a a′ b b′ k l =
-      fun-ext
-      (λ m.
-      difference-ext w h (m .dx) (m .dy) (planesBy exclusion percentile w h a) (planesBy exclusion percentile w h a′) (planesBy exclusion percentile w h b) (planesBy exclusion percentile w h b′)
-      (same-planes Q q exclusion percentile w h a a′ fair some most k)
-      (same-planes R r exclusion percentile w h b b′ fair some most l))
-
-  pub same-pair : (s w h : ℕ) (a a′ b b′ : Frame) → Linked Q w h a a′ → Linked R w h b b′
-      → pair order exclusion percentile s w h a b ≡ pair order exclusion percentile s w h a′ b′
-  unfolding pair
-  same-pair zero w h a a′ b b′ k l = ap (λ (c : Offset → ℕ). level order c still []) (same-counts w h a a′ b b′ k l)
-  same-pair (suc s) w h a a′ b b′ k l =
-      ap₂
-      (λ (c : Offset → ℕ) (coarse : Aligned). level order c (added (coarse .offset) (coarse .offset)) (coarse .counts))
-      (same-counts w h a a′ b b′ k l)
-      (same-pair s (w / 2) (h / 2) (halved a) (halved a′) (halved b) (halved b′) (link-halve Q q w h a a′ k) (link-halve R r w h b b′ l))
+pub linked-kept : (exclusion : Exclusion) (percentile : ℕ) → Fair exclusion percentile → 1 ≤ percentile → percentile ≤ 99
+    → (Q : ℕ → ℕ → Type 0) → Link Q → Kept exclusion percentile (Linked Q)
+linked-kept exclusion percentile fair some most Q link = record {
+  planes = λ w h f g linked. same-planes Q link exclusion percentile w h f g fair some most linked;
+  halves = link-halve Q link;
+}
 
 -- A series' answer sees only the answers of its pairs.
 sum-from-ext : (d e : ℕ → Offset) (a n : ℕ) → ((k : ℕ) → k < a + n → d k ≡ e k) → sumFrom d a n ≡ sumFrom e a n

@@ -13,7 +13,8 @@ use Rattle.rules.specs.Levels.{Exclusion, wardOrder, byTolerance, pair}
 use Rattle.rules.specs.Series.{Settings, greyOf, pairOf, frameOffset, offsetList, Answer, answerOf, answerBy, seriesAnswer}
 use Rattle.reexposure.specs.Reexposure.{Reexposed, Bytes, Sound, Bounded, Demand3}
 use Rattle.reexposure.proofs.Links.{Link, Linked, Fair, fair-zero}
-use Rattle.reexposure.proofs.Pairs.{same-pair, answer-ext}
+use Rattle.reexposure.proofs.Pairs.{linked-kept, answer-ext}
+use Rattle.rules.proofs.PairLaws.{pair-by}
 use Rattle.rules.proofs.BoundLaws.{Near, Every, near-pair, near-ward, near-frame, offset-at}
 
 -- grey values that some pixel of frame k has in F and in F′
@@ -63,9 +64,10 @@ same-answer order exclusion S F F′ sound fair bytes bytes′ alike =
     (λ k l.
     let p : ℕ = getD (S .percentiles) k 0 in
     let fits = sound .percentile k (omega arith) in
-    same-pair order exclusion p (fair p (fits .0) (fits .1)) (fits .0) (fits .1) (Seen S F F′ k) (Seen S F F′ (k + 1))
-    (seen-link S F F′ bytes bytes′ alike k (omega arith))
-    (seen-link S F F′ bytes bytes′ alike (k + 1) (omega arith))
+    let kept = linked-kept exclusion p (fair p (fits .0) (fits .1)) (fits .0) (fits .1) in
+    pair-by order exclusion p (Linked (Seen S F F′ k)) (Linked (Seen S F F′ (k + 1)))
+    (kept (Seen S F F′ k) (seen-link S F F′ bytes bytes′ alike k (omega arith)))
+    (kept (Seen S F F′ (k + 1)) (seen-link S F F′ bytes bytes′ alike (k + 1) (omega arith)))
     (S .halvings) (S .w) (S .h) (greyOf S F k) (greyOf S F′ k) (greyOf S F (k + 1)) (greyOf S F′ (k + 1))
     (seen S F F′ k) (seen S F F′ (k + 1)))
 
