@@ -15,7 +15,7 @@ use Rattle.rules.specs.Frames.{Frame, frameOf, writtenOver}
 use Rattle.rules.specs.Planes.{thresholdBit, distance, exclusionBit, bitsBy}
 use Rattle.rules.specs.Bitmaps.{rowWords, word, wordOf, packed}
 use Rattle.rules.proofs.SumLaws.{order}
-use Rattle.rules.proofs.FrameLaws.{RowAt, FrameAt, frame-more, frame-written, row-fits}
+use Rattle.rules.proofs.FrameLaws.{RowAt, row-more, FrameAt, frame-more, frame-written, row-fits}
 use Rattle.words.proofs.BitLaws.{word-ext}
 use Rattle.pack.specs.Outside.{outsideBit, outsidePlane, flagAt, outsideWord}
 
@@ -111,21 +111,13 @@ flags-more lo hi grey at i flags v room e d k l =
         ∙ ap (λ (j : ℕ). outsideBit lo hi (getD grey (at + j) 0)) (sym f)
         ∙ sym (flag-in lo hi grey at (i + 1) k (omega arith))
 
--- the words of a row: a full one for each 64 pixels, and one for what is left
-pub no-rest : (w : ℕ) → w % 64 ≤ 0 → w / 64 ≡ rowWords w
+-- as a sum that omega reads
+pub row-words : (w : ℕ) → rowWords w ≡ (w + 63) / 64
 unfolding rowWords
-no-rest w l = omega arith
-
-pub some-rest : (w : ℕ) → 0 < w % 64 → w / 64 + 1 ≡ rowWords w
-unfolding rowWords
-some-rest w l = omega arith
-
-pub full-fits : (w : ℕ) → w / 64 ≤ rowWords w
-unfolding rowWords
-full-fits w = omega arith
+row-words w = refl
 
 -- word k of a row, from its flags: 64 pixels, or what is left of the row
-pub word-of-flags : (lo hi : ℕ) (grey : List ℕ) (from w k n : ℕ) → n ≡ min 64 (w - k * 64)
+word-of-flags : (lo hi : ℕ) (grey : List ℕ) (from w k n : ℕ) → n ≡ min 64 (w - k * 64)
     → word (flagAt lo hi grey (from + k * 64) n) ≡ outsideWord lo hi grey from w k
 unfolding outsideWord wordOf
 word-of-flags lo hi grey from w k n e =
@@ -144,6 +136,14 @@ word-of-flags lo hi grey from w k n e =
         past m =
             flag-past lo hi grey (from + k * 64) n i m
             ∙ sym (ap (λ t. gate t (outsideBit lo hi (getD grey (from + (k * 64 + i)) 0))) (le-ltb (k * 64 + i) w (omega arith)))
+
+-- one word more of a row
+pub row-word : (lo hi : ℕ) (grey : List ℕ) (from w to k n : ℕ) (before after : List ℕ) (v : ℕ) → to + k < length before
+    → n ≡ min 64 (w - k * 64) → v ≡ word (flagAt lo hi grey (from + k * 64) n)
+    → RowAt to (outsideWord lo hi grey from w) before k after
+    → RowAt to (outsideWord lo hi grey from w) before (k + 1) (set after (to + k) v)
+row-word lo hi grey from w to k n before after v room e d r =
+    row-more to (outsideWord lo hi grey from w) before k after v room r (d ∙ word-of-flags lo hi grey from w k n e)
 
 -- The row that begins at place y * w is row y of the frame: one row more of its words from place `to` on.
 pub frame-row : (lo hi w y : ℕ) (grey : List ℕ) (to place : ℕ) (before mid after : List ℕ) → place ≡ to + y * rowWords w
