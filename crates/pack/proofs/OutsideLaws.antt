@@ -1,9 +1,9 @@
 -- Laws of flags and of the words that they make.
 use mathlib.Core.Path.{_≡_, refl, sym, ap, _∙_}
 use mathlib.Core.Bool.{Bool, true, false, _||_}
-use mathlib.Core.Logic.{_⊎_, inl, inr, ⊎-elim}
+use mathlib.Core.Logic.{⊎-elim}
 use mathlib.Core.List.{List}
-use Prim.Native.Nat.{ℕ, zero, suc, _+_, _*_, _-_, _/_, _%_, _≤_, _<_, min, max}
+use Prim.Native.Nat.{ℕ, _+_, _*_, _-_, _/_, _≤_, _<_, min, max}
 use native.Mathlib.Nat.{add-assoc}
 use native.Mathlib.Omega.{arith}
 use lib.Dec.{ltb}
@@ -17,6 +17,7 @@ use Rattle.rules.specs.Bitmaps.{rowWords, word, wordOf, packed}
 use Rattle.rules.proofs.SumLaws.{order}
 use Rattle.rules.proofs.FrameLaws.{RowAt, row-more, FrameAt, frame-more, frame-written, row-fits}
 use Rattle.words.proofs.BitLaws.{word-ext}
+use Rattle.pack.proofs.CaseLaws.{compared}
 use Rattle.pack.specs.Outside.{outsideBit, outsidePlane, flagAt, outsideWord}
 
 -- "Threshold bit: 1 where grey > t."
@@ -90,7 +91,7 @@ pub flags-more : (lo hi : ℕ) (grey : List ℕ) (at i : ℕ) (flags : List ℕ)
     → ((k : ℕ) → k < 64 → getD flags k 0 ≡ flagAt lo hi grey at i k) → v ≡ outsideBit lo hi (getD grey (at + i) 0)
     → (k : ℕ) → k < 64 → getD (set flags i v) k 0 ≡ flagAt lo hi grey at (i + 1) k
 flags-more lo hi grey at i flags v room e d k l =
-    ⊎-elim (λ (m : k < i). below m) (λ (m : i ≤ k). ⊎-elim (λ (n : i < k). above n) (λ (n : k ≤ i). here m n) (order i k)) (order k i)
+    compared k i below here above
   where
     below : k < i → getD (set flags i v) k 0 ≡ flagAt lo hi grey at (i + 1) k
     below m =
@@ -102,9 +103,8 @@ flags-more lo hi grey at i flags v room e d k l =
         getD-set-other flags i k v 0 (λ f. omega arith)
         ∙ e k l ∙ flag-past lo hi grey at i k (omega arith) ∙ sym (flag-past lo hi grey at (i + 1) k (omega arith))
 
-    here : i ≤ k → k ≤ i → getD (set flags i v) k 0 ≡ flagAt lo hi grey at (i + 1) k
-    here m n =
-        let f : k ≡ i = omega arith in
+    here : k ≡ i → getD (set flags i v) k 0 ≡ flagAt lo hi grey at (i + 1) k
+    here f =
         ap (λ (j : ℕ). getD (set flags i v) j 0) f
         ∙ getD-set-same flags i v 0 room
         ∙ d

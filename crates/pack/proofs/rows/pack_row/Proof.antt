@@ -1,3 +1,4 @@
+-- The loop's invariant: the first k words of the row are written, and nothing else has changed. The number of words is carried as a sum that omega reads.
 use mathlib.Core.Path.{_≡_}
 use Prim.Native.Nat.{_+_, _-_, _/_, _%_, _≤_}
 use Rattle.rules.specs.Bitmaps.{rowWords}
@@ -8,9 +9,6 @@ use native.Mathlib.Omega.{arith}
 use borrow.Author.Needs.{needs}
 use Rattle.pack.proofs.rows.pack_row.Statement.{statement}
 use Rattle.pack.proofs.rows.pack_row.Tie as tie
-use Rattle.pack.proofs.rows.pack_row.Reads as reads
-use Rattle.pack.proofs.rows.pack_row.Lts as lts
-use Rattle.pack.proofs.rows.pack_word.Reads as pack-word-reads
 
 abbrev Inv-loop : tie.InvT-loop
 Inv-loop grey from w lo hi out₀ to full rest k₀ out k =
@@ -19,45 +17,35 @@ Inv-loop grey from w lo hi out₀ to full rest k₀ out k =
 abbrev μ-loop : tie.MeasureT-loop
 μ-loop grey from w lo hi out₀ to full rest k₀ out k = full - k
 
--- src/rows.rt:30:5
 loop-holds : tie.Need-loop-holds Inv-loop μ-loop
 loop-holds c =
     let a = c .before .before .args in
     (omega arith, row-words (a .w), row-none (a .to) (outsideWord (a .lo) (a .hi) (a .grey .now) (a .from) (a .w)) (a .out .now))
 
--- src/rows.rt:31:46
 mul-pack-word : tie.Need-mul-pack-word Inv-loop μ-loop
 mul-pack-word c = search needs
 
--- src/rows.rt:31:39
 add-pack-word : tie.Need-add-pack-word Inv-loop μ-loop
 add-pack-word c = search needs
 
--- src/rows.rt:31:23
 pack-word-requires : tie.Need-pack-word-requires Inv-loop μ-loop
 pack-word-requires c κs = search needs
 
--- src/rows.rt:31:13
 add-out : tie.Need-add-out Inv-loop μ-loop
 add-out c = search needs
 
--- src/rows.rt:31:9
 mul-out : tie.Need-mul-out Inv-loop μ-loop
 mul-out c = search needs
 
--- src/rows.rt:31:9
 slice-write-out : tie.Need-slice-write-out Inv-loop μ-loop
 slice-write-out c = search needs
 
--- src/rows.rt:32:9
 add-k : tie.Need-add-k Inv-loop μ-loop
 add-k c = search needs
 
--- src/rows.rt:30:5
 loop-less : tie.Need-loop-less Inv-loop μ-loop
 loop-less c = search needs
 
--- src/rows.rt:30:5
 loop-again : tie.Need-loop-again Inv-loop μ-loop
 loop-again c =
     let a = c .before .before .before .before .before .args in
@@ -66,35 +54,27 @@ loop-again c =
     row-word (a .lo) (a .hi) (a .grey .now) (a .from) (a .w) (a .to) (L .k) 64 (a .out .now) (L .out) (c .pack-word .result) (omega arith) (omega arith)
     (c .pack-word .ensures) (L .inv .2))
 
--- src/rows.rt:35:49
 mul-pack-word-2 : tie.Need-mul-pack-word-2 Inv-loop μ-loop
 mul-pack-word-2 c = search needs
 
--- src/rows.rt:35:42
 add-pack-word-2 : tie.Need-add-pack-word-2 Inv-loop μ-loop
 add-pack-word-2 c = search needs
 
--- src/rows.rt:35:26
 pack-word-requires-2 : tie.Need-pack-word-requires-2 Inv-loop μ-loop
 pack-word-requires-2 c κs = search needs
 
--- src/rows.rt:35:13
 add-out-2 : tie.Need-add-out-2 Inv-loop μ-loop
 add-out-2 c = search needs
 
--- src/rows.rt:35:9
 mul-out-2 : tie.Need-mul-out-2 Inv-loop μ-loop
 mul-out-2 c = search needs
 
--- src/rows.rt:35:9
 slice-write-out-2 : tie.Need-slice-write-out-2 Inv-loop μ-loop
 slice-write-out-2 c = search needs
 
--- src/rows.rt:23:1
 same-length : tie.Need-same-length Inv-loop μ-loop
 same-length c = search needs
 
--- src/rows.rt:23:1
 returns : tie.Need-returns Inv-loop μ-loop
 returns c =
     let a = c .before .before .before .before .before .before .args in
@@ -106,11 +86,9 @@ returns c =
     (row-word (a .lo) (a .hi) (a .grey .now) (a .from) (a .w) (a .to) (a .w / 64) (a .w % 64) (a .out .now) (L .out) (c .pack-word2 .result)
     (omega arith) (omega arith) (c .pack-word2 .ensures) r)
 
--- src/rows.rt:23:1
 same-length-2 : tie.Need-same-length-2 Inv-loop μ-loop
 same-length-2 c = search needs
 
--- src/rows.rt:23:1
 returns-2 : tie.Need-returns-2 Inv-loop μ-loop
 returns-2 c =
     let all : c .before .before .loop .k ≡ rowWords (c .before .before .before .before .before .args .w) = omega arith in
