@@ -1,7 +1,6 @@
 // Both bitmaps of a grey frame.
 
 use crate::rows::pack_row;
-
 ghost use mathlib.Core.Path.{_≡_};
 ghost use Prim.Native.Nat.{_+_, _*_, _-_, _≤_, min};
 ghost use lib.ListN.{length};

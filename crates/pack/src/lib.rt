@@ -1,6 +1,8 @@
 // Packing of a grey frame into its threshold bitmap and its exclusion bitmap.
 
-use frame::{high_end, low_end, pack_frame};
+use frame::high_end;
+use frame::low_end;
+use frame::pack_frame;
 use rules::Written;
 
 mod frame;
@@ -26,7 +28,14 @@ pub fn bitmaps(
     ensures thresholds { λ _. ⌜ now (thresholds .exit) ≡ thresholdsOut w h threshold tolerance (now (grey .entry)) (now (thresholds .entry)) (now (exclusions .entry)) ⌝ }
     ensures exclusions { λ _. ⌜ now (exclusions .exit) ≡ exclusionsOut w h threshold tolerance (now (grey .entry)) (now (thresholds .entry)) (now (exclusions .entry)) ⌝ }
 {
-    let n = refusals::bitmaps_refusal(w, h, tolerance, grey.len(), thresholds.len(), exclusions.len());
+    let n = refusals::bitmaps_refusal(
+        w,
+        h,
+        tolerance,
+        grey.len(),
+        thresholds.len(),
+        exclusions.len(),
+    );
     if n != 0 {
         return Written::Refused(n);
     }

@@ -2,7 +2,6 @@
 
 use crate::gather::gather_word;
 use crate::outside::flags_of;
-
 ghost use mathlib.Core.Path.{_≡_};
 ghost use Prim.Native.Nat.{_+_, _*_, _≤_};
 ghost use lib.ListN.{length};

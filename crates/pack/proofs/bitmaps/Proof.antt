@@ -44,10 +44,13 @@ returns-2 c =
     let ends = ap₂ (λ (lo hi : ℕ). outsidePlane lo hi (a .w) (a .grey .now)) (sym (c .before .before .before .before .before .before .before .before .low-end .ensures)) (sym (c .before .before .before .before .before .before .before .high-end .ensures)) in
     let bytes : (i : ℕ) → getD (a .grey .now) i 0 < 256 = λ i. c .before .before .before .before .before .before .before .before .before .before .before .before .before .shared-slice-known .given i .fits in
     let f = c .before .before .before .before .pack-frame in
-    rw e
-    (refl,
-    (packed-plane (a .w) (a .h) _ _ (a .thresholds .now) _ (threshold-plane (a .threshold) (a .w) (a .grey .now)) (k .room1) (f .ensures .0),
-    packed-plane (a .w) (a .h) _ _ (a .exclusions .now) _ (exclusion-plane (a .threshold) (a .tolerance) (a .w) (a .grey .now) bytes ∙ ends) (k .room2) (f .ensures .1)))
+    rw e (
+      refl,
+      (
+        packed-plane (a .w) (a .h) _ _ (a .thresholds .now) _ (threshold-plane (a .threshold) (a .w) (a .grey .now)) (k .room1) (f .ensures .0),
+        packed-plane (a .w) (a .h) _ _ (a .exclusions .now) _ (exclusion-plane (a .threshold) (a .tolerance) (a .w) (a .grey .now) bytes ∙ ends) (k .room2) (f .ensures .1),
+      ),
+    )
 
 pub bitmaps-spec : {M : Type 1} → statement M
 bitmaps-spec =

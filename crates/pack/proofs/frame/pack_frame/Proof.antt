@@ -24,10 +24,11 @@ row-words-requires c κs = search needs
 
 loop-holds : tie.Need-loop-holds Inv-loop μ-loop
 loop-holds c =
-    let a = c .before .before .before .before .args in
-    (omega arith,
-    frame-none 0 (rowWords (a .w)) (wordOf (a .w) (outsidePlane 0 (a .threshold) (a .w) (a .grey .now))) (a .thresholds .now),
-    frame-none 0 (rowWords (a .w)) (wordOf (a .w) (outsidePlane (a .lo) (a .hi) (a .w) (a .grey .now))) (a .exclusions .now))
+    let a = c .before .before .before .before .args in (
+      omega arith,
+      frame-none 0 (rowWords (a .w)) (wordOf (a .w) (outsidePlane 0 (a .threshold) (a .w) (a .grey .now))) (a .thresholds .now),
+      frame-none 0 (rowWords (a .w)) (wordOf (a .w) (outsidePlane (a .lo) (a .hi) (a .w) (a .grey .now))) (a .exclusions .now),
+    )
 
 -- a row's places in the frame and in a bitmap
 inside : (c : tie.In-loop Inv-loop μ-loop)
@@ -63,10 +64,11 @@ loop-again c =
     let s = c .before .before .before .before .before .before .before .before in
     let L = s .before .loop in
     let a = s .before .before .before .before .before .before .args in
-    let p = inside s in
-    (omega arith,
-    frame-row 0 (a .threshold) (a .w) (L .y) (a .grey .now) 0 _ (a .thresholds .now) (L .thresholds) _ (p .1) (L .inv .1) (c .before .before .before .before .before .before .pack-row .ensures),
-    frame-row (a .lo) (a .hi) (a .w) (L .y) (a .grey .now) 0 _ (a .exclusions .now) (L .exclusions) _ (p .1) (L .inv .2) (c .before .before .pack-row2 .ensures))
+    let p = inside s in (
+      omega arith,
+      frame-row 0 (a .threshold) (a .w) (L .y) (a .grey .now) 0 _ (a .thresholds .now) (L .thresholds) _ (p .1) (L .inv .1) (c .before .before .before .before .before .before .pack-row .ensures),
+      frame-row (a .lo) (a .hi) (a .w) (L .y) (a .grey .now) 0 _ (a .exclusions .now) (L .exclusions) _ (p .1) (L .inv .2) (c .before .before .pack-row2 .ensures),
+    )
 
 same-length : tie.Need-same-length Inv-loop μ-loop
 same-length c = search needs

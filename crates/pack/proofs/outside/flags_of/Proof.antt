@@ -43,9 +43,11 @@ loop-again : tie.Need-loop-again Inv-loop μ-loop
 loop-again c =
     let a = c .before .before .before .before .before .args in
     let L = c .before .before .before .loop in
-    let len : length (L .flags) ≡ 64 = L .inv .1 in
-    (omega arith, simp length-set len,
-    flags-more (a .lo) (a .hi) (a .grey .now) (a .at) (L .i) (L .flags) (c .outside-bit .result) (omega arith) (L .inv .2) (c .outside-bit .ensures))
+    let len : length (L .flags) ≡ 64 = L .inv .1 in (
+      omega arith,
+      simp length-set len,
+      flags-more (a .lo) (a .hi) (a .grey .now) (a .at) (L .i) (L .flags) (c .outside-bit .result) (omega arith) (L .inv .2) (c .outside-bit .ensures),
+    )
 
 returns : tie.Need-returns Inv-loop μ-loop
 returns c =

@@ -49,10 +49,12 @@ loop-less c = search needs
 loop-again : tie.Need-loop-again Inv-loop μ-loop
 loop-again c =
     let a = c .before .before .before .before .before .args in
-    let L = c .before .before .loop in
-    (omega arith, L .inv .1,
-    row-word (a .lo) (a .hi) (a .grey .now) (a .from) (a .w) (a .to) (L .k) 64 (a .out .now) (L .out) (c .pack-word .result) (omega arith) (omega arith)
-    (c .pack-word .ensures) (L .inv .2))
+    let L = c .before .before .loop in (
+      omega arith,
+      L .inv .1,
+      row-word (a .lo) (a .hi) (a .grey .now) (a .from) (a .w) (a .to) (L .k) 64 (a .out .now) (L .out) (c .pack-word .result) (omega arith) (omega arith)
+          (c .pack-word .ensures) (L .inv .2),
+    )
 
 mul-pack-word-2 : tie.Need-mul-pack-word-2 Inv-loop μ-loop
 mul-pack-word-2 c = search needs
