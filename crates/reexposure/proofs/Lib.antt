@@ -1,5 +1,4 @@
 -- The proof of the re-exposure theorem, lowest first.
 pub mod Links
 pub mod Pairs
-pub mod Bounds
 pub mod Theorem

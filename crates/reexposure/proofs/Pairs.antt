@@ -10,7 +10,8 @@ use borrow.Author.Tests.{leb-true, leb-false}
 use Rattle.rules.specs.Frames.{Frame}
 use Rattle.rules.specs.Greys.{halved}
 use Rattle.rules.specs.Differences.{difference}
-use Rattle.rules.specs.Levels.{Offset, still, added, Exclusion, planesBy, Aligned, level, countAt, pair}
+use Rattle.rules.specs.declared.Offset.{Offset}
+use Rattle.rules.specs.Levels.{still, added, Exclusion, planesBy, Aligned, level, countAt, pair}
 use Rattle.rules.specs.Series.{sumFrom, opposite, frameOffset, offsetList, countList, Answer, answerOf}
 use Rattle.rules.proofs.DifferenceLaws.{difference-ext}
 use Rattle.reexposure.proofs.Links.{Link, Linked, link-halve, Fair, same-planes}

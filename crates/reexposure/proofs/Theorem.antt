@@ -8,12 +8,13 @@ use lib.ListN.{getD, drop}
 use lib.Seq.{getD-drop}
 use Rattle.rules.specs.Greys.{grey, greyFrame}
 use Rattle.rules.specs.Planes.{distance}
-use Rattle.rules.specs.Levels.{Offset, Exclusion, wardOrder, byTolerance, pair}
+use Rattle.rules.specs.declared.Offset.{Offset}
+use Rattle.rules.specs.Levels.{Exclusion, wardOrder, byTolerance, pair}
 use Rattle.rules.specs.Series.{Settings, greyOf, pairOf, frameOffset, offsetList, Answer, answerOf, answerBy, seriesAnswer}
 use Rattle.reexposure.specs.Reexposure.{Reexposed, Bytes, Sound, Bounded, Demand3}
 use Rattle.reexposure.proofs.Links.{Link, Linked, Fair, fair-zero}
 use Rattle.reexposure.proofs.Pairs.{same-pair, answer-ext}
-use Rattle.reexposure.proofs.Bounds.{Near, Every, near-pair, near-ward, near-frame, offset-at}
+use Rattle.rules.proofs.BoundLaws.{Near, Every, near-pair, near-ward, near-frame, offset-at}
 
 -- grey values that some pixel of frame k has in F and in F′
 record Seen (S : Settings) (F F′ : List ℕ) (k : ℕ) (v v′ : ℕ) : Type 0 where

@@ -5,4 +5,7 @@ pub mod RefusalLaws
 pub mod GreyLaws
 pub mod ThresholdLaws
 pub mod DifferenceLaws
+pub mod BoundLaws
+pub mod LevelLaws
+pub mod SignedLaws
 pub mod ExampleLaws

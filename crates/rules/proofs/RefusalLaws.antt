@@ -261,6 +261,6 @@ pub thresholded-refused : (n v : ℕ) → (n ≡ 0 → ⊥) → Thresholded.Refu
 thresholded-refused zero v l = absurd (l refl)
 thresholded-refused (suc n) v l = refl
 
-pub lent-refused : (n : ℕ) (out before : List ℕ) → (n ≡ 0 → ⊥) → before ≡ lent n out before
+pub lent-refused : {A : Type 0} (n : ℕ) (out before : List A) → (n ≡ 0 → ⊥) → before ≡ lent n out before
 lent-refused zero out before l = absurd (l refl)
 lent-refused (suc n) out before l = refl

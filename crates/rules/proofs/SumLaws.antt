@@ -2,7 +2,7 @@
 use mathlib.Core.Path.{_≡_, refl, sym, ap, ap₂, _∙_}
 use mathlib.Core.Bool.{Bool, true, false}
 use mathlib.Core.Logic.{_⊎_, inl, inr}
-use Prim.Native.Nat.{ℕ, zero, suc, _+_, _*_, _≤_, _<_}
+use Prim.Native.Nat.{ℕ, zero, suc, _+_, _*_, _-_, _≤_, _<_}
 use native.Mathlib.Decide.{decLt}
 use native.Mathlib.Nat.{lt-of-not-le, le-refl}
 use native.Mathlib.Numerals.{add-one}
@@ -54,6 +54,13 @@ sum-split m zero f = ap (λ (k : ℕ). sum k f) (native.Mathlib.Nat.add-zero m) 
 sum-split m (suc n) f =
     ap (λ (k : ℕ). sum k f) (native.Mathlib.Nat.add-suc m n) ∙ (let a = sum-split m n f in omega arith)
 
+-- the first m of n summands
+pub sum-part : (m n : ℕ) (f : ℕ → ℕ) → m ≤ n → sum m f ≤ sum n f
+sum-part m n f l =
+    let a = sum-split m (n - m) f in
+    let b : sum (m + (n - m)) f ≡ sum n f = ap (λ (k : ℕ). sum k f) (omega arith) in
+    omega arith
+
 pub pixels-ext : (w h : ℕ) (f g : ℕ → ℕ → ℕ) → ((x y : ℕ) → x < w → y < h → f x y ≡ g x y) → sumPixels w h f ≡ sumPixels w h g
 unfolding sumPixels
 pixels-ext w h f g e = sum-ext h (rowSum w f) (rowSum w g) (λ y l. sum-ext w (λ x. f x y) (λ x. g x y) (λ x k. e x y k l))
@@ -69,7 +76,7 @@ unfolding sum
 sum-mono zero f g e = le-refl 0
 sum-mono (suc n) f g e = let a = sum-mono n f g (λ i l. e i (omega arith)) in let b = e n (omega arith) in omega arith
 
-sum-all : (n b : ℕ) (f : ℕ → ℕ) → ((i : ℕ) → i < n → f i ≡ b) → sum n f ≡ n * b
+pub sum-all : (n b : ℕ) (f : ℕ → ℕ) → ((i : ℕ) → i < n → f i ≡ b) → sum n f ≡ n * b
 unfolding sum
 sum-all zero b f e = sym (native.Mathlib.Nat.zero-mul b)
 sum-all (suc n) b f e =

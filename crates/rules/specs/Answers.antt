@@ -4,6 +4,8 @@ use Prim.Native.Nat.{ℕ, zero, suc}
 use Rattle.rules.specs.declared.Written.{Written}
 use Rattle.rules.specs.declared.Counted.{Counted}
 use Rattle.rules.specs.declared.Thresholded.{Thresholded}
+use Rattle.rules.specs.declared.Offset.{Offset}
+use Rattle.rules.specs.declared.Paired.{Paired}
 use Rattle.rules.specs.Frames.{writtenOver}
 
 -- the answer for a refusal number, 0 where none applies, and the value where the answer has one
@@ -19,7 +21,11 @@ abbrev pub thresholded : ℕ → ℕ → Thresholded
 thresholded zero t = Thresholded.At t
 thresholded (suc n) t = Thresholded.Refused (suc n)
 
+abbrev pub paired : ℕ → Offset → Paired
+paired zero m = Paired.Moved m
+paired (suc n) m = Paired.Refused (suc n)
+
 -- what a lent buffer holds after a call with this refusal number: the output over what it held, or what it held
-abbrev pub lent : ℕ → List ℕ → List ℕ → List ℕ
+abbrev pub lent : {A : Type 0} → ℕ → List A → List A → List A
 lent zero out before = writtenOver out before
 lent (suc n) out before = before

@@ -12,7 +12,9 @@ use Rattle.rules.specs.Thresholds.{threshold}
 use Rattle.rules.specs.Planes.{thresholdBit, exclusionBit, bitsBy, shifted, total}
 use Rattle.rules.specs.Bitmaps.{bitAt, packed}
 use Rattle.rules.specs.Differences.{Planes, difference}
-use Rattle.rules.specs.Refusals.{greyRefusal, halveRefusal, thresholdRefusal, bitmapsRefusal, shiftRefusal, totalRefusal, differenceRefusal}
+use Rattle.rules.specs.Levels.{wardOrder, byTolerance, Aligned, pair}
+use Rattle.rules.specs.Refusals.{greyRefusal, halveRefusal, thresholdRefusal, bitmapsRefusal, shiftRefusal, totalRefusal, differenceRefusal, pairRefusal, seriesRefusal}
+use Rattle.rules.specs.Series.{Settings, Answer, seriesAnswer}
 use Rattle.rules.specs.Answers.{written, counted, thresholded, lent}
 
 -- Grey conversion of a raster into a lent grey frame.
@@ -65,3 +67,22 @@ abbrev pub differenceAnswer : ℕ → ℕ → ℤ → ℤ → List ℕ → List 
 differenceAnswer w h dx dy threshold1 exclusion1 threshold2 exclusion2 =
     counted (differenceRefusal w h (length threshold1) (length exclusion1) (length threshold2) (length exclusion2))
     (difference w h dx dy (planesOf w h threshold1 exclusion1) (planesOf w h threshold2 exclusion2))
+
+-- Pair alignment of two rasters: the offset, and the counts in their buffer.
+abbrev pub pairNumber : ℕ → ℕ → ℕ → ℕ → ℕ → List ℕ → List ℕ → List ℕ → List ℕ → List ℕ → ℕ
+pairNumber w h s tolerance percentile first second counts grey words =
+    pairRefusal w h s tolerance percentile (length first) (length second) (length counts) (length grey) (length words)
+
+-- "the pixel-by-pixel answer": from rasters, sizes and settings alone
+unfoldable pub pairResult : ℕ → ℕ → ℕ → ℕ → ℕ → List ℕ → List ℕ → Aligned
+pairResult w h s tolerance percentile first second =
+    pair wardOrder (byTolerance tolerance) percentile s w h (greyFrame w first) (greyFrame w second)
+
+-- Series alignment: offsets and counts in their buffers.
+abbrev pub seriesNumber : ℕ → ℕ → ℕ → ℕ → ℕ → ℕ → List ℕ → List ℕ → List ℤ → List ℕ → List ℕ → List ℕ → ℕ
+seriesNumber w h s tolerance n r percentiles rasters offsets counts grey words =
+    seriesRefusal w h s tolerance n r percentiles (length rasters) (length offsets) (length counts) (length grey) (length words)
+
+abbrev pub settings : ℕ → ℕ → ℕ → ℕ → ℕ → ℕ → List ℕ → Settings
+settings w h s tolerance n r percentiles =
+    record { frames = n; w = w; h = h; halvings = s; tolerance = tolerance; reference = r; percentiles = percentiles }

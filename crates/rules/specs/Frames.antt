@@ -22,5 +22,5 @@ rows w zero f = []
 rows w (suc h) f = rows w h f ++ row w (λ x. f x h)
 
 -- what a lent buffer holds once an output is written at its beginning: "if longer, the excess is untouched"
-abbrev pub writtenOver : List ℕ → List ℕ → List ℕ
+abbrev pub writtenOver : {A : Type 0} → List A → List A → List A
 writtenOver out lent = out ++ drop (length out) lent

@@ -4,6 +4,7 @@ use mathlib.Core.List.{List, [], _∷_, _++_, map}
 use Prim.Native.Nat.{ℕ, zero, suc, _/_}
 use lib.Dec.{ltb}
 use lib.IntN.{ℤ, pos, negsuc, _+ℤ_}
+use Rattle.rules.specs.declared.Offset.{Offset}
 use Rattle.rules.specs.Frames.{Frame}
 use Rattle.rules.specs.Greys.{halved}
 use Rattle.rules.specs.Thresholds.{threshold}
@@ -11,10 +12,6 @@ use Rattle.rules.specs.Planes.{thresholdBit, exclusionBit, bitsBy}
 use Rattle.rules.specs.Differences.{Planes, difference}
 
 -- "Offset (dx,dy) moves a frame right by dx and down by dy."
-pub record Offset : Type 0 where
-  pub dx : ℤ
-  pub dy : ℤ
-
 abbrev pub still : Offset
 still = record { dx = pos 0; dy = pos 0 }
 

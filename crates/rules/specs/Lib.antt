@@ -9,7 +9,7 @@ pub mod Bitmaps
 pub mod Differences
 pub mod Refusals
 pub mod Answers
-pub mod Calls
 pub mod Levels
 pub mod Series
+pub mod Calls
 pub mod Examples

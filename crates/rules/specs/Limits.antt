@@ -16,3 +16,11 @@ maxGrey = 255
 -- "A bitmap row is W = ceil(w/64) words of 64 bits."
 abbrev pub wordBits : ℕ
 wordBits = 64
+
+-- "A pair has s halvings, 0 to 8"
+abbrev pub maxHalvings : ℕ
+maxHalvings = 8
+
+-- "A series has N frames, 1 to 16"
+abbrev pub maxFrames : ℕ
+maxFrames = 16

@@ -1,9 +1,11 @@
 -- The refusal number of each call: "the lowest that applies is given, and none otherwise"; 0 is none.
 -- The conditions see sizes, settings and lengths, never what a buffer holds.
 use mathlib.Core.Bool.{Bool, true, false, _&&_, _||_, not}
-use Prim.Native.Nat.{ℕ, zero, suc, _*_, _/_}
+use mathlib.Core.List.{List, [], _∷_}
+use Prim.Native.Nat.{ℕ, zero, suc, _+_, _*_, _-_, _/_, _^_}
 use lib.Dec.{ltb, eqb}
-use Rattle.rules.specs.Limits.{maxSide, maxTolerance}
+use lib.ListN.{length}
+use Rattle.rules.specs.Limits.{maxSide, maxTolerance, maxHalvings, maxFrames}
 use Rattle.rules.specs.Bitmaps.{rowWords}
 
 -- the number n when the condition applies, else 0
@@ -25,7 +27,14 @@ badSide n = eqb n 0 || ltb maxSide n
 unfoldable pub badSize : ℕ → ℕ → Bool
 badSize w h = badSide w || badSide h
 
--- 4. "A side is … for the halving call below 2."
+-- 3. "s is above 8."
+unfoldable pub badHalvings : ℕ → Bool
+badHalvings s = ltb maxHalvings s
+
+-- 4. "A side is below 2^(s+2), or for the halving call below 2."
+unfoldable pub tooSmall : ℕ → ℕ → ℕ → Bool
+tooSmall w h s = ltb w (2 ^ (s + 2)) || ltb h (2 ^ (s + 2))
+
 unfoldable pub unhalvable : ℕ → ℕ → Bool
 unhalvable w h = ltb w 2 || ltb h 2
 
@@ -33,9 +42,25 @@ unhalvable w h = ltb w 2 || ltb h 2
 unfoldable pub badTolerance : ℕ → Bool
 badTolerance tolerance = ltb maxTolerance tolerance
 
+-- 6. "N is 0 or above 16."
+unfoldable pub badFrames : ℕ → Bool
+badFrames n = eqb n 0 || ltb maxFrames n
+
+-- 7. "r is not below N."
+unfoldable pub badReference : ℕ → ℕ → Bool
+badReference n r = not (ltb r n)
+
 -- 8. a percentile "isn't 17, 50 or 83"
 unfoldable pub badPercentile : ℕ → Bool
 badPercentile p = not (eqb p 17 || (eqb p 50 || eqb p 83))
+
+unfoldable pub someBadPercentile : List ℕ → Bool
+someBadPercentile [] = false
+someBadPercentile (p ∷ ps) = badPercentile p || someBadPercentile ps
+
+-- 8. "There are not N−1 percentiles, or one isn't 17, 50 or 83."
+unfoldable pub badPercentiles : ℕ → List ℕ → Bool
+badPercentiles n ps = not (eqb (length ps) (n - 1)) || someBadPercentile ps
 
 -- 9. "An input slice hasn't exactly the needed length"
 abbrev pub wrongLength : ℕ → ℕ → Bool
@@ -54,6 +79,25 @@ greyLength w h = w * h
 
 abbrev pub bitmapLength : ℕ → ℕ → ℕ
 bitmapLength w h = rowWords w * h
+
+-- the numbers of a pair's counts: "9·(s+1) 32-bit numbers"
+abbrev pub countsLength : ℕ → ℕ
+countsLength s = 9 * (s + 1)
+
+-- "Lent work memory for pair and series: grey, 2·(sum over levels of width·height) bytes; words, 6·W·h."
+unfoldable pub levelPixels : ℕ → ℕ → ℕ → ℕ
+levelPixels zero w h = w * h
+levelPixels (suc s) w h = w * h + levelPixels s (w / 2) (h / 2)
+
+abbrev pub greyNeeded : ℕ → ℕ → ℕ → ℕ
+greyNeeded s w h = 2 * levelPixels s w h
+
+abbrev pub wordsNeeded : ℕ → ℕ → ℕ
+wordsNeeded w h = 6 * bitmapLength w h
+
+-- 11. "Grey or word work memory is shorter than needed."
+abbrev pub shortMemory : ℕ → ℕ → ℕ → ℕ → ℕ → Bool
+shortMemory s w h grey words = short (greyNeeded s w h) grey || short (wordsNeeded w h) words
 
 -- Each call's number, from its sizes and settings and the lengths of its slices.
 
@@ -100,3 +144,27 @@ differenceRefusal w h threshold1 exclusion1 threshold2 exclusion2 =
     2 when badSize w h
     orElse 9 when (wrongLength (bitmapLength w h) threshold1 || (wrongLength (bitmapLength w h) exclusion1
     || (wrongLength (bitmapLength w h) threshold2 || wrongLength (bitmapLength w h) exclusion2)))
+
+unfoldable pub pairRefusal : ℕ → ℕ → ℕ → ℕ → ℕ → ℕ → ℕ → ℕ → ℕ → ℕ → ℕ
+pairRefusal w h s tolerance percentile first second counts grey words =
+    2 when badSize w h
+    orElse 3 when badHalvings s
+    orElse 4 when tooSmall w h s
+    orElse 5 when badTolerance tolerance
+    orElse 8 when badPercentile percentile
+    orElse 9 when (wrongLength (rasterLength w h) first || wrongLength (rasterLength w h) second)
+    orElse 10 when short (countsLength s) counts
+    orElse 11 when shortMemory s w h grey words
+
+unfoldable pub seriesRefusal : ℕ → ℕ → ℕ → ℕ → ℕ → ℕ → List ℕ → ℕ → ℕ → ℕ → ℕ → ℕ → ℕ
+seriesRefusal w h s tolerance n r percentiles rasters offsets counts grey words =
+    2 when badSize w h
+    orElse 3 when badHalvings s
+    orElse 4 when tooSmall w h s
+    orElse 5 when badTolerance tolerance
+    orElse 6 when badFrames n
+    orElse 7 when badReference n r
+    orElse 8 when badPercentiles n percentiles
+    orElse 9 when wrongLength (n * rasterLength w h) rasters
+    orElse 10 when (short (2 * n) offsets || short (countsLength s * (n - 1)) counts)
+    orElse 11 when shortMemory s w h grey words

@@ -7,7 +7,8 @@ use lib.IntN.{ℤ, negℤ}
 use lib.ListN.{getD, drop}
 use Rattle.rules.specs.Frames.{Frame}
 use Rattle.rules.specs.Greys.{greyFrame}
-use Rattle.rules.specs.Levels.{Offset, still, added, Exclusion, byTolerance, wardOrder, Aligned, pair}
+use Rattle.rules.specs.declared.Offset.{Offset}
+use Rattle.rules.specs.Levels.{still, added, Exclusion, byTolerance, wardOrder, Aligned, pair}
 
 -- "Its sizes are N, w and h; its settings are s, T, r and the percentiles."
 pub record Settings : Type 0 where

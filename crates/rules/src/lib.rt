@@ -17,3 +17,15 @@ pub enum Thresholded {
     At(u8),
     Refused(u32),
 }
+
+// An offset moves a frame right by dx and down by dy.
+pub struct Offset {
+    pub dx: i32,
+    pub dy: i32,
+}
+
+// The answer of the pair call: the offset that moves the second frame onto the first.
+pub enum Paired {
+    Moved(Offset),
+    Refused(u32),
+}

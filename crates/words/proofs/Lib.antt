@@ -1,2 +1,3 @@
--- Laws of bits and words, for the proofs of the crates that pack, shift and count.
+-- Laws of bits, words and moved rows, for the proofs of the crates that pack, shift and count.
 pub mod BitLaws
+pub mod MoveLaws

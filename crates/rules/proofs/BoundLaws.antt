@@ -12,12 +12,13 @@ use lib.ListN.{length, getD, length-append, List·getD-append}
 use lib.Seq.{getD-append-add}
 use lib.Pow.{pow-pos}
 use borrow.Author.Tests.{leb-true, leb-false, lt-ltb, le-ltb}
 use Rattle.rules.specs.Frames.{Frame}
 use Rattle.rules.specs.Greys.{halved}
 use Rattle.rules.specs.Planes.{distance}
-use Rattle.rules.specs.Levels.{Offset, still, added, Exclusion, wardOrder, firstLeast, chosen, Aligned, level, countAt, pair}
+use Rattle.rules.specs.declared.Offset.{Offset}
+use Rattle.rules.specs.Levels.{still, added, Exclusion, wardOrder, firstLeast, chosen, Aligned, level, countAt, pair}
 use Rattle.rules.specs.Series.{sumFrom, opposite, frameOffset, offsetList}
 use Rattle.rules.proofs.SumLaws.{order}
 
 -- at most n in size on each axis
 pub record Near (n : ℕ) (m : Offset) : Type 0 where
@@ -31,18 +32,18 @@ abs-sub a b =
     (λ (l : b ≤ a). rw (le-ltb a b l) (omega arith))
     (order a b)
 
-abs-add : (a b : ℤ) → natAbs (a +ℤ b) ≤ natAbs a + natAbs b
+pub abs-add : (a b : ℤ) → natAbs (a +ℤ b) ≤ natAbs a + natAbs b
 abs-add (pos a) (pos b) = le-refl (a + b)
 abs-add (pos a) (negsuc b) = let l = abs-sub a (suc b) in omega arith
 abs-add (negsuc a) (pos b) = let l = abs-sub b (suc a) in omega arith
 abs-add (negsuc a) (negsuc b) = omega arith
 
-abs-neg : (a : ℤ) → natAbs (negℤ a) ≡ natAbs a
+pub abs-neg : (a : ℤ) → natAbs (negℤ a) ≡ natAbs a
 abs-neg (pos zero) = refl
 abs-neg (pos (suc n)) = refl
 abs-neg (negsuc n) = refl
 
-near-add : (m n : ℕ) (a b : Offset) → Near m a → Near n b → Near (m + n) (added a b)
+pub near-add : (m n : ℕ) (a b : Offset) → Near m a → Near n b → Near (m + n) (added a b)
 near-add m n a b p q = record {
   dx = let k = abs-add (a .dx) (b .dx) in let c = p .dx in let d = q .dx in omega arith;
   dy = let k = abs-add (a .dy) (b .dy) in let c = p .dy in let d = q .dy in omega arith;
@@ -51,7 +52,7 @@ near-add m n a b p q = record {
 near-opposite : (n : ℕ) (a : Offset) → Near n a → Near n (opposite a)
 near-opposite n a p = record { dx = rw (abs-neg (a .dx)) (p .dx); dy = rw (abs-neg (a .dy)) (p .dy) }
 
-near-more : (m n : ℕ) (a : Offset) → m ≤ n → Near m a → Near n a
+pub near-more : (m n : ℕ) (a : Offset) → m ≤ n → Near m a → Near n a
 near-more m n a l p = record { dx = let c = p .dx in omega arith; dy = let c = p .dy in omega arith }
 
 -- every offset of a list
@@ -77,7 +78,7 @@ near-candidates : (n : ℕ) (centre : Offset) (ms : List Offset) → Near n cent
 near-candidates n centre [] c all = tt
 near-candidates n centre (m ∷ ms) c all = (near-add n 1 centre m c (all .0), near-candidates n centre ms c (all .1))
 
-near-still : (n : ℕ) → Near n still
+pub near-still : (n : ℕ) → Near n still
 near-still n = record { dx = omega arith; dy = omega arith }
 
 near-level : (order : List Offset) → Every (Near 1) order → (count : Offset → ℕ) (n : ℕ) (centre : Offset) (coarser : List ℕ)

@@ -1,0 +1,21 @@
+// The offered shift of a packed bitmap.
+
+ghost use mathlib.Core.Path.{_≡_};
+ghost use Rattle.rules.specs.Calls.{shiftAnswer, shiftOut};
+use refusals::shift_refusal;
+use rules::Written;
+
+pub mod moves;
+
+// Shift of a lent bitmap into a lent one, by any two signed numbers.
+pub fn shift(w: usize, h: usize, dx: i32, dy: i32, bitmap: &[u64], out: &mut [u64]) -> Written
+    ensures answer { λ r. ⌜ r ≡ shiftAnswer w h (now (bitmap .entry)) (now (out .entry)) ⌝ }
+    ensures output { λ _. ⌜ now (out .exit) ≡ shiftOut w h dx dy (now (bitmap .entry)) (now (out .entry)) ⌝ }
+{
+    let n = shift_refusal(w, h, bitmap.len(), out.len());
+    if n != 0 {
+        return Written::Refused(n);
+    }
+    moves::move_bitmap(w, h, dx, dy, bitmap, out);
+    Written::Done
+}

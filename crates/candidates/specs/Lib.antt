@@ -1,0 +1,2 @@
+-- What the search for the least count keeps.
+pub mod Leading

@@ -1,0 +1,6 @@
+-- Laws of counting over packed words.
+pub mod Table
+pub mod OnesLaws
+pub mod RowLaws
+pub mod DifferLaws
+pub mod AnswerLaws

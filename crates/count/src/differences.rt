@@ -1,0 +1,272 @@
+// The difference count of two frames' packed bitmaps. The second frame's rows are moved word by word
+// on reading.
+
+use crate::ones::word_ones;
+use refusals::row_words;
+use words::biased;
+use words::moved_word;
+use words::row_word;
+ghost use mathlib.Core.Path.{_≡_};
+ghost use Prim.Native.Nat.{ℕ, _+_, _*_, _-_, _<_, _≤_, min, max};
+ghost use lib.ListN.{length, getD};
+ghost use Rattle.rules.specs.Limits.{maxSide, wordBits};
+ghost use Rattle.rules.specs.Sums.{sum};
+ghost use Rattle.rules.specs.Bitmaps.{rowWords};
+ghost use Rattle.rules.specs.Differences.{difference};
+ghost use Rattle.rules.specs.Calls.{planesOf};
+ghost use Rattle.words.specs.Rows.{bias, biasWords};
+ghost use Rattle.count.specs.Ones.{CountsOnes};
+ghost use Rattle.count.specs.Rows.{Adds, movedDiffer, lineDiffer, Moves, RowsIn, FramesIn, Joined};
+
+const WORD_BITS: usize = 64;
+
+// 2^31: moves are counted from the least signed 32-bit number, so that none is negative.
+const BIAS: usize = 2147483648;
+
+// 2^31 / 64
+const BIAS_WORDS: usize = 33554432;
+
+// A move of rows of w pixels, in n words, by q words, counted from the bias, and r bits. A word from
+// `first` up to `end` is made of two words of the row, and none of the three is the row's last: it
+// needs no test and no mask.
+pub struct Move {
+    pub w: usize,
+    pub n: usize,
+    pub q: usize,
+    pub r: usize,
+    pub first: usize,
+    pub end: usize,
+}
+
+fn lower(a: usize, b: usize) -> usize
+    ensures { λ r. ⌜ r ≡ min a b ⌝ }
+{
+    if a < b { a } else { b }
+}
+
+fn upper(a: usize, b: usize) -> usize
+    ensures { λ r. ⌜ r ≡ max a b ⌝ }
+{
+    if a < b { b } else { a }
+}
+
+fn move_by(w: usize, d: usize) -> Move
+    requires wide { ⌜ 0 < w ⌝ }
+    requires width { ⌜ w ≤ maxSide ⌝ }
+    requires near { ⌜ d < 4294967296 ⌝ }
+    ensures { λ m. ⌜ (m .w ≡ w) × ((m .q * wordBits + m .r ≡ d) × Moves m) ⌝ }
+{
+    let n = row_words(w);
+    let q = d / WORD_BITS;
+    let end = lower(n - 1, upper(q + n - 1, BIAS_WORDS) - BIAS_WORDS);
+    let first = lower(end, upper(q + 1, BIAS_WORDS) - BIAS_WORDS);
+    Move {
+        w,
+        n,
+        q,
+        r: d % WORD_BITS,
+        first,
+        end,
+    }
+}
+
+// The bits of word j moved up by r, below them the topmost r bits of the word before it. (Two steps
+// down, since the machine moves by less than 64.)
+fn joined_word(src: &[u64], j: usize, r: usize) -> u64
+    requires bits { ⌜ r < wordBits ⌝ }
+    requires here { ⌜ (1 ≤ j) × (j < length (now src)) ⌝ }
+    ensures { λ v. ⌜ Joined (getD (now (src .entry)) j 0) (getD (now (src .entry)) (j - 1) 0) r v ⌝ }
+{
+    (src[j] << r) | ((src[j - 1] >> 1) >> (63 - r))
+}
+
+// One interior word. A word with no kept pixel is left before its threshold bits are read.
+fn interior_word(
+    t1: &[u64],
+    e1: &[u64],
+    t2: &[u64],
+    e2: &[u64],
+    base: usize,
+    from: usize,
+    m: Move,
+    k: usize,
+    ones: &[u8; 256],
+) -> u32
+    requires moves { ⌜ Moves m ⌝ }
+    requires here { ⌜ (m .first ≤ k) × (k < m .end) ⌝ }
+    requires rows { ⌜ RowsIn (now t1) (now e1) (now t2) (now e2) base from (m .w) ⌝ }
+    requires table { ⌜ CountsOnes (now ones) ⌝ }
+    ensures { λ r. ⌜ Adds (movedDiffer (now (t1 .entry)) (now (e1 .entry)) (now (t2 .entry)) (now (e2 .entry)) base from m) k (k + 1) r ⌝ }
+{
+    let i = base + k;
+    let j = from + k + BIAS_WORDS - m.q;
+    let kept = e1[i] & joined_word(e2, j, m.r);
+    if kept == 0 {
+        return 0;
+    }
+    word_ones((t1[i] ^ joined_word(t2, j, m.r)) & kept, ones)
+}
+
+// One word near a row's edge.
+fn careful_word(
+    t1: &[u64],
+    e1: &[u64],
+    t2: &[u64],
+    e2: &[u64],
+    base: usize,
+    from: usize,
+    m: Move,
+    k: usize,
+    ones: &[u8; 256],
+) -> u32
+    requires moves { ⌜ Moves m ⌝ }
+    requires here { ⌜ k < m .n ⌝ }
+    requires rows { ⌜ RowsIn (now t1) (now e1) (now t2) (now e2) base from (m .w) ⌝ }
+    requires table { ⌜ CountsOnes (now ones) ⌝ }
+    ensures { λ r. ⌜ Adds (movedDiffer (now (t1 .entry)) (now (e1 .entry)) (now (t2 .entry)) (now (e2 .entry)) base from m) k (k + 1) r ⌝ }
+{
+    let at = k + BIAS_WORDS;
+    let kept = row_word(e1, base, m.w, k) & moved_word(e2, from, m.w, at, m.q, m.r);
+    if kept == 0 {
+        return 0;
+    }
+    word_ones(
+        (t1[base + k] ^ moved_word(t2, from, m.w, at, m.q, m.r)) & kept,
+        ones,
+    )
+}
+
+// A row's interior words.
+fn interior(
+    t1: &[u64],
+    e1: &[u64],
+    t2: &[u64],
+    e2: &[u64],
+    base: usize,
+    from: usize,
+    m: Move,
+    ones: &[u8; 256],
+) -> u32
+    requires moves { ⌜ Moves m ⌝ }
+    requires rows { ⌜ RowsIn (now t1) (now e1) (now t2) (now e2) base from (m .w) ⌝ }
+    requires table { ⌜ CountsOnes (now ones) ⌝ }
+    ensures { λ r. ⌜ Adds (movedDiffer (now (t1 .entry)) (now (e1 .entry)) (now (t2 .entry)) (now (e2 .entry)) base from m) (m .first) (m .end) r ⌝ }
+{
+    let mut count: u32 = 0;
+    let mut k = m.first;
+    let end = m.end;
+    while k < end {
+        count += interior_word(t1, e1, t2, e2, base, from, m, k, ones);
+        k += 1;
+    }
+    count
+}
+
+// The words of a row from `first` up to `end`.
+fn careful(
+    t1: &[u64],
+    e1: &[u64],
+    t2: &[u64],
+    e2: &[u64],
+    base: usize,
+    from: usize,
+    m: Move,
+    first: usize,
+    end: usize,
+    ones: &[u8; 256],
+) -> u32
+    requires moves { ⌜ Moves m ⌝ }
+    requires span { ⌜ (first ≤ end) × (end ≤ m .n) ⌝ }
+    requires rows { ⌜ RowsIn (now t1) (now e1) (now t2) (now e2) base from (m .w) ⌝ }
+    requires table { ⌜ CountsOnes (now ones) ⌝ }
+    ensures { λ r. ⌜ Adds (movedDiffer (now (t1 .entry)) (now (e1 .entry)) (now (t2 .entry)) (now (e2 .entry)) base from m) first end r ⌝ }
+{
+    let mut count: u32 = 0;
+    let mut k = first;
+    while k < end {
+        count += careful_word(t1, e1, t2, e2, base, from, m, k, ones);
+        k += 1;
+    }
+    count
+}
+
+// The row at `base` against the moved row at `from`.
+fn row_difference(
+    t1: &[u64],
+    e1: &[u64],
+    t2: &[u64],
+    e2: &[u64],
+    base: usize,
+    from: usize,
+    m: Move,
+    ones: &[u8; 256],
+) -> u32
+    requires moves { ⌜ Moves m ⌝ }
+    requires rows { ⌜ RowsIn (now t1) (now e1) (now t2) (now e2) base from (m .w) ⌝ }
+    requires table { ⌜ CountsOnes (now ones) ⌝ }
+    ensures { λ r. ⌜ r ≡ sum (m .w) (movedDiffer (now (t1 .entry)) (now (e1 .entry)) (now (t2 .entry)) (now (e2 .entry)) base from m) ⌝ }
+{
+    careful(t1, e1, t2, e2, base, from, m, 0, m.first, ones)
+        + interior(t1, e1, t2, e2, base, from, m, ones)
+        + careful(t1, e1, t2, e2, base, from, m, m.end, m.n, ones)
+}
+
+// Row y of the frame. Its partner row is `up` rows back, counted from the bias; a row whose partner
+// lies outside the frame has no difference.
+fn line_difference(
+    t1: &[u64],
+    e1: &[u64],
+    t2: &[u64],
+    e2: &[u64],
+    h: usize,
+    y: usize,
+    up: usize,
+    m: Move,
+    ones: &[u8; 256],
+) -> u32
+    requires moves { ⌜ Moves m ⌝ }
+    requires here { ⌜ (y < h) × (h ≤ maxSide) ⌝ }
+    requires frames { ⌜ FramesIn (now t1) (now e1) (now t2) (now e2) (m .w) h ⌝ }
+    requires table { ⌜ CountsOnes (now ones) ⌝ }
+    ensures { λ r. ⌜ r ≡ lineDiffer (now (t1 .entry)) (now (e1 .entry)) (now (t2 .entry)) (now (e2 .entry)) (m .w) h (m .q * wordBits + m .r) up y ⌝ }
+{
+    let at = y + BIAS;
+    if at < up {
+        return 0;
+    }
+    let z = at - up;
+    if h <= z {
+        return 0;
+    }
+    row_difference(t1, e1, t2, e2, y * m.n, z * m.n, m, ones)
+}
+
+// Of two frames of w by h pixels. The table of counts is lent, so that a caller that counts often takes
+// it once.
+pub fn difference_frame(
+    w: usize,
+    h: usize,
+    dx: i32,
+    dy: i32,
+    t1: &[u64],
+    e1: &[u64],
+    t2: &[u64],
+    e2: &[u64],
+    ones: &[u8; 256],
+) -> u32
+    requires width { ⌜ (0 < w) × (w ≤ maxSide) ⌝ }
+    requires height { ⌜ h ≤ maxSide ⌝ }
+    requires frames { ⌜ FramesIn (now t1) (now e1) (now t2) (now e2) w h ⌝ }
+    requires table { ⌜ CountsOnes (now ones) ⌝ }
+    ensures { λ r. ⌜ r ≡ difference w h dx dy (planesOf w h (now (t1 .entry)) (now (e1 .entry))) (planesOf w h (now (t2 .entry)) (now (e2 .entry))) ⌝ }
+{
+    let m = move_by(w, biased(dx));
+    let up = biased(dy);
+    let mut count: u32 = 0;
+    let mut y: usize = 0;
+    while y < h {
+        count += line_difference(t1, e1, t2, e2, h, y, up, m, ones);
+        y += 1;
+    }
+    count
+}

@@ -1,0 +1,2 @@
+-- Laws of rows and frames written place by place, for the cores' proofs.
+pub mod PlaceLaws

@@ -1,0 +1,101 @@
+-- The invariant: the results of the first b blocks are written, and nothing else has changed.
+use mathlib.Core.Path.{_≡_}
+use Prim.Native.Nat.{_*_, _≤_, _-_, _/_}
+use native.Mathlib.Omega.{arith}
+use borrow.Author.Needs.{needs}
+use Rattle.rules.proofs.FrameLaws.{RowAt, row-none}
+use Rattle.frame.specs.Places.{halfAt}
+use Rattle.frame.proofs.PlaceLaws.{block-more}
+use Rattle.frame.proofs.halving.halve_blocks.Statement.{statement}
+use Rattle.frame.proofs.halving.halve_blocks.Tie as tie
+
+abbrev Inv-loop : tie.InvT-loop
+Inv-loop src top bottom dst₀ to n blocks b₀ dst b = (b ≤ blocks) × RowAt to (halfAt src top bottom) dst₀ (32 * b) dst
+
+abbrev μ-loop : tie.MeasureT-loop
+μ-loop src top bottom dst₀ to n blocks b₀ dst b = blocks - b
+
+loop-holds : tie.Need-loop-holds Inv-loop μ-loop
+loop-holds c = (omega arith, row-none _ _ _)
+
+mul-k : tie.Need-mul-k Inv-loop μ-loop
+mul-k c = search needs
+
+mul-halve-block : tie.Need-mul-halve-block Inv-loop μ-loop
+mul-halve-block c = search needs
+
+add-halve-block : tie.Need-add-halve-block Inv-loop μ-loop
+add-halve-block c = search needs
+
+mul-halve-block-2 : tie.Need-mul-halve-block-2 Inv-loop μ-loop
+mul-halve-block-2 c = search needs
+
+add-halve-block-2 : tie.Need-add-halve-block-2 Inv-loop μ-loop
+add-halve-block-2 c = search needs
+
+halve-block-requires : tie.Need-halve-block-requires Inv-loop μ-loop
+halve-block-requires c κs = search needs
+
+add-store-block : tie.Need-add-store-block Inv-loop μ-loop
+add-store-block c = search needs
+
+store-block-requires : tie.Need-store-block-requires Inv-loop μ-loop
+store-block-requires c κs = search needs
+
+add-b : tie.Need-add-b Inv-loop μ-loop
+add-b c = search needs
+
+loop-less : tie.Need-loop-less Inv-loop μ-loop
+loop-less c = search needs
+
+loop-again : tie.Need-loop-again Inv-loop μ-loop
+loop-again c =
+    let stored = c .before .before in
+    let made = stored .before .before .before in
+    let lp = made .before .before .loop in
+    let a = made .before .before .before .before .before .args in (
+      omega arith,
+      block-more
+          (a .src .now)
+          (made .halve-block .result)
+          (a .dst .now)
+          (lp .dst)
+          (stored .store-block .last .1 .0)
+          (a .top)
+          (a .bottom)
+          (a .to)
+          (lp .b)
+          (lp .inv .1)
+          (made .halve-block .ensures)
+          (stored .store-block .ensures),
+    )
+
+same-length : tie.Need-same-length Inv-loop μ-loop
+same-length c = search needs
+
+returns : tie.Need-returns Inv-loop μ-loop
+returns c =
+    let lp = c .before .loop in
+    let e : lp .b ≡ c .before .before .before .before .args .n / 32 = omega arith in
+    rw e at (lp .inv .1)
+
+pub halve-blocks-spec : {M : Type 1} → statement M
+halve-blocks-spec =
+    tie.close
+    (tie.spec
+    Inv-loop
+    μ-loop
+    loop-holds
+    mul-k
+    mul-halve-block
+    add-halve-block
+    mul-halve-block-2
+    add-halve-block-2
+    halve-block-requires
+    add-store-block
+    store-block-requires
+    add-b
+    loop-less
+    loop-again
+    same-length
+    returns)

@@ -1,0 +1,84 @@
+-- The invariant: the first k columns are done. The length lets each store be in range.
+use mathlib.Core.Path.{_≡_, refl, _∙_}
+use Prim.Native.Nat.{_≤_, _-_}
+use native.Mathlib.Omega.{arith}
+use lib.ListN.{length, length-set}
+use borrow.Author.Needs.{needs}
+use Rattle.frame.specs.Places.{secondAt, Filled}
+use Rattle.frame.proofs.PlaceLaws.{filled-none, filled-more}
+use Rattle.frame.proofs.halving.seconds.Statement.{statement}
+use Rattle.frame.proofs.halving.seconds.Tie as tie
+
+abbrev Inv-loop : tie.InvT-loop
+Inv-loop low high all₀ k₀ all k = (k ≤ 64) × (length all ≡ 64) × Filled (secondAt low high) k all
+
+abbrev μ-loop : tie.MeasureT-loop
+μ-loop low high all₀ k₀ all k = 64 - k
+
+loop-holds : tie.Need-loop-holds Inv-loop μ-loop
+loop-holds c = (omega arith, refl, filled-none _ _)
+
+element-copy-out-second : tie.Need-element-copy-out-second Inv-loop μ-loop
+element-copy-out-second c = search needs
+
+add-second : tie.Need-add-second Inv-loop μ-loop
+add-second c = search needs
+
+element-copy-out-second-2 : tie.Need-element-copy-out-second-2 Inv-loop μ-loop
+element-copy-out-second-2 c = search needs
+
+element-copy-out-second-3 : tie.Need-element-copy-out-second-3 Inv-loop μ-loop
+element-copy-out-second-3 c = search needs
+
+add-second-2 : tie.Need-add-second-2 Inv-loop μ-loop
+add-second-2 c = search needs
+
+element-copy-out-second-4 : tie.Need-element-copy-out-second-4 Inv-loop μ-loop
+element-copy-out-second-4 c = search needs
+
+second-requires : tie.Need-second-requires Inv-loop μ-loop
+second-requires c κs = search needs
+
+array-write-all : tie.Need-array-write-all Inv-loop μ-loop
+array-write-all c = search needs
+
+add-k : tie.Need-add-k Inv-loop μ-loop
+add-k c = search needs
+
+loop-less : tie.Need-loop-less Inv-loop μ-loop
+loop-less c = search needs
+
+loop-again : tie.Need-loop-again Inv-loop μ-loop
+unfolding secondAt
+loop-again c =
+    let lp = c .before .before .before .before .before .before .loop in (
+      omega arith,
+      length-set (lp .all) (lp .k) (c .second .result) ∙ lp .inv .1,
+      filled-more _ (lp .k) (lp .all) (c .second .result) (omega arith) (lp .inv .2) (c .second .ensures),
+    )
+
+returns : tie.Need-returns Inv-loop μ-loop
+returns c =
+    let lp = c .before .loop in
+    let e : lp .k ≡ 64 = omega arith in
+    rw e at (lp .inv .2)
+
+pub seconds-spec : {M : Type 1} → statement M
+seconds-spec =
+    tie.close
+    (tie.spec
+    Inv-loop
+    μ-loop
+    loop-holds
+    element-copy-out-second
+    add-second
+    element-copy-out-second-2
+    element-copy-out-second-3
+    add-second-2
+    element-copy-out-second-4
+    second-requires
+    array-write-all
+    add-k
+    loop-less
+    loop-again
+    returns)

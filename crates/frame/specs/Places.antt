@@ -1,0 +1,46 @@
+-- The pixel rules at places of a flat list.
+use mathlib.Core.Path.{_≡_}
+use mathlib.Core.List.{List}
+use Prim.Native.Nat.{ℕ, _+_, _*_, _<_, _≤_, min, max}
+use lib.ListN.{getD}
+use Rattle.rules.specs.Greys.{grey, secondSmallest}
+
+-- the grey value of pixel i of a raster, counted flat
+unfoldable pub greyAt : List ℕ → ℕ → ℕ
+greyAt raster i = grey (getD raster (3 * i) 0) (getD raster (3 * i + 1) 0) (getD raster (3 * i + 2) 0)
+
+-- column k of two rows whose bytes begin at `top` and at `bottom`: the lower and the higher of its two bytes
+unfoldable pub lowAt : List ℕ → ℕ → ℕ → ℕ → ℕ
+lowAt l top bottom k = min (getD l (top + k) 0) (getD l (bottom + k) 0)
+
+unfoldable pub highAt : List ℕ → ℕ → ℕ → ℕ → ℕ
+highAt l top bottom k = max (getD l (top + k) 0) (getD l (bottom + k) 0)
+
+-- the second smallest of columns k and k + 1, by their lower and higher bytes
+unfoldable pub secondAt : List ℕ → List ℕ → ℕ → ℕ
+secondAt low high k = min (max (getD low k 0) (getD low (k + 1) 0)) (min (getD high k 0) (getD high (k + 1) 0))
+
+unfoldable pub itemAt : List ℕ → ℕ → ℕ
+itemAt l k = getD l k 0
+
+unfoldable pub evenAt : List ℕ → ℕ → ℕ
+evenAt l k = getD l (2 * k) 0
+
+-- result k of two rows whose bytes begin at `top` and at `bottom`
+unfoldable pub halfAt : List ℕ → ℕ → ℕ → ℕ → ℕ
+halfAt l top bottom k =
+    secondSmallest
+    (getD l (top + 2 * k) 0)
+    (getD l (top + (2 * k + 1)) 0)
+    (getD l (bottom + 2 * k) 0)
+    (getD l (bottom + (2 * k + 1)) 0)
+
+-- a list whose first n numbers are f's
+pub record Filled (f : ℕ → ℕ) (n : ℕ) (l : List ℕ) : Type 0 where
+  pub done : (k : ℕ) → k < n → getD l k 0 ≡ f k
+
+-- n results of two rows fit: both rows lie in the source, and the results in the destination from place `to` on
+pub record RowFits (source top bottom destination to n : ℕ) : Type 0 where
+  pub above : top + 2 * n ≤ source
+  pub below : bottom + 2 * n ≤ source
+  pub room : to + n ≤ destination

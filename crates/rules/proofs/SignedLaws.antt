@@ -1,0 +1,34 @@
+-- Sums of signed 32-bit numbers that stay far from their limits: the machine's sum is the sum.
+use mathlib.Core.Path.{_≡_, refl, sym, ap, ap₂, _∙_}
+use Prim.Native.Nat.{ℕ, suc, _≤_, _<_, _^_}
+use native.Mathlib.Nat.{le-refl}
+use native.Mathlib.Omega.{arith}
+use lib.IntN.{ℤ, pos, negsuc, natAbs, _+ℤ_, _-ℤ_}
+use lib.Signed.{mag}
+use mir.Syntax.{w32}
+use mir.Val.{SFits, toZ, ofZ}
+use mir.Facts.{toZ-ofZ}
+use Rattle.rules.proofs.BoundLaws.{abs-add}
+
+mag-le : (z : ℤ) → mag z ≤ natAbs z
+mag-le (pos n) = le-refl n
+mag-le (negsuc n) = omega arith
+
+pub small-fits : (z : ℤ) → natAbs z ≤ 4000000 → SFits w32 z
+small-fits z l = record { sfits = let m = mag-le z in omega arith }
+
+pub sum-fits : (a b : ℤ) → natAbs a ≤ 2000000 → natAbs b ≤ 2000000 → SFits w32 (a +ℤ b)
+sum-fits a b k l = small-fits (a +ℤ b) (let m = abs-add a b in omega arith)
+
+-- a signed local is read back from its bits
+pub bits-are : (z : ℤ) → natAbs z ≤ 4000000 → toZ w32 (ofZ w32 z) ≡ z
+bits-are z l = toZ-ofZ (small-fits z l)
+
+pub sum-is : (a b : ℤ) → natAbs a ≤ 2000000 → natAbs b ≤ 2000000
+    → toZ w32 (ofZ w32 (toZ w32 (ofZ w32 a) +ℤ toZ w32 (ofZ w32 b))) ≡ a +ℤ b
+sum-is a b k l =
+    ap₂ (λ (x y : ℤ). toZ w32 (ofZ w32 (x +ℤ y))) (bits-are a (omega arith)) (bits-are b (omega arith))
+    ∙ toZ-ofZ (sum-fits a b k l)
+
+pub sum-bits-fit : (a b : ℤ) → natAbs a ≤ 2000000 → natAbs b ≤ 2000000 → SFits w32 (toZ w32 (ofZ w32 a) +ℤ toZ w32 (ofZ w32 b))
+sum-bits-fit a b k l = rw (bits-are a (omega arith), bits-are b (omega arith)) (sum-fits a b k l)

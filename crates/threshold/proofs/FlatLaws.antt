@@ -1,0 +1,72 @@
+-- The threshold by the counts of the values, place by place and pixel by pixel is the same.
+use mathlib.Core.Path.{_≡_, refl, sym, ap, ap₂, _∙_}
+use mathlib.Core.Bool.{Bool, true, false}
+use mathlib.Core.List.{List}
+use Prim.Native.Nat.{ℕ, zero, suc, _+_, _*_, _≤_, _<_}
+use native.Mathlib.Nat.{mul-comm}
+use native.Mathlib.Numerals.{add-one}
+use native.Mathlib.Omega.{arith}
+use lib.Dec.{eqb, ltb, leb, leb·suc-suc}
+use lib.ListN.{length, getD}
+use borrow.Author.Tests.{eqb-true, eqb-false, ltb-true, ltb-false, lt-ltb, le-ltb}
+use Rattle.rules.specs.Limits.{maxGrey}
+use Rattle.rules.specs.Sums.{oneIf, sum}
+use Rattle.rules.specs.Frames.{frameOf}
+use Rattle.rules.specs.Thresholds.{atMost, reaches, threshold}
+use Rattle.rules.proofs.SumLaws.{sum-ext, sum-zero, sum-all, sum-add, pixels-flat}
+use Rattle.rules.proofs.ThresholdLaws.{least-ext}
+use Rattle.threshold.specs.Flat.{countTo, countIn, atMostIn, thresholdIn, firstReaching}
+
+-- a value below v + 1 is below v or is v
+below-next : (x v : ℕ) → oneIf (ltb x v) + oneIf (eqb x v) ≡ oneIf (ltb x (v + 1))
+below-next x v = split (eqb x v) refl (ltb x v) refl
+  where
+    split : (e : Bool) → eqb x v ≡ e → (l : Bool) → ltb x v ≡ l → oneIf l + oneIf e ≡ oneIf (ltb x (v + 1))
+    split true p true q = absurd (let a = eqb-true x v p in let b = ltb-true x v q in omega arith)
+    split true p false q = let a = eqb-true x v p in rw (lt-ltb x (v + 1) (omega arith))
+    split false p true q = let b = ltb-true x v q in rw (lt-ltb x (v + 1) (omega arith))
+    split false p false q = let a = eqb-false x v p in let b = ltb-false x v q in rw (le-ltb x (v + 1) (omega arith))
+
+-- the counts of the values below v, added, count the places that hold a value below v
+counts-below : (l : List ℕ) (n v : ℕ) → sum v (λ k. countTo l n k) ≡ sum n (λ i. oneIf (ltb (getD l i 0) v))
+unfolding sum countTo
+counts-below l n zero = sym (sum-zero n (λ i. oneIf (ltb (getD l i 0) 0)) (λ i k. rw (le-ltb (getD l i 0) 0 (omega arith))))
+counts-below l n (suc v) =
+    ap (λ (s : ℕ). s + countTo l n v) (counts-below l n v)
+    ∙ sum-add n (λ i. oneIf (ltb (getD l i 0) v)) (λ i. oneIf (eqb (getD l i 0) v))
+    ∙ sum-ext n (λ i. oneIf (ltb (getD l i 0) v) + oneIf (eqb (getD l i 0) v)) (λ i. oneIf (ltb (getD l i 0) (suc v)))
+    (λ i k. below-next (getD l i 0) v ∙ ap (λ (j : ℕ). oneIf (ltb (getD l i 0) j)) (add-one v))
+
+-- What a histogram of a list knows: the count of each grey value.
+module _ (l counts : List ℕ) (e : (v : ℕ) → v < 256 → getD counts v 0 ≡ countIn l v) where
+  counts-to : (v : ℕ) → v ≤ 256 → sum v (λ k. getD counts k 0) ≡ sum (length l) (λ i. oneIf (ltb (getD l i 0) v))
+  counts-to v m = sum-ext v (λ k. getD counts k 0) (λ k. countIn l k) (λ k n. e k (omega arith)) ∙ counts-below l (length l) v
+
+  -- the counts together are the places of a list of bytes
+  pub counts-all : ((i : ℕ) → i < length l → getD l i 0 < 256) → sum 256 (λ k. getD counts k 0) ≡ length l
+  counts-all b =
+      counts-to 256 (omega arith)
+      ∙ sum-all (length l) 1 (λ i. oneIf (ltb (getD l i 0) 256)) (λ i k. rw (lt-ltb (getD l i 0) 256 (b i k)))
+      ∙ omega arith
+
+  -- the walk over the counts gives the list's threshold
+  pub walk-is : (percentile : ℕ) → firstReaching (percentile * length l) counts ≡ thresholdIn percentile l
+  unfolding firstReaching thresholdIn atMostIn
+  walk-is percentile =
+      least-ext maxGrey (λ v. leb (percentile * length l) (100 * sum (v + 1) (λ k. getD counts k 0))) (λ v. leb (percentile * length l) (100 * atMostIn l v))
+      (λ v m. ap (λ (s : ℕ). leb (percentile * length l) (100 * s))
+      (counts-to (v + 1) (omega arith)
+      ∙ sum-ext (length l) (λ i. oneIf (ltb (getD l i 0) (v + 1))) (λ i. oneIf (leb (getD l i 0) v))
+      (λ i k. ap oneIf (ap (λ (j : ℕ). ltb (getD l i 0) j) (add-one v) ∙ leb·suc-suc (getD l i 0) v))))
+
+-- the list's threshold is its frame's
+pub threshold-flat : (w h percentile : ℕ) (l : List ℕ) → length l ≡ w * h → thresholdIn percentile l ≡ threshold w h percentile (frameOf w l)
+unfolding thresholdIn threshold reaches atMost atMostIn frameOf
+threshold-flat w h percentile l e =
+    least-ext maxGrey (λ v. leb (percentile * length l) (100 * atMostIn l v)) (reaches w h percentile (frameOf w l))
+    (λ v m. ap₂ (λ (n s : ℕ). leb (percentile * n) (100 * s)) e (same v))
+  where
+    same : (v : ℕ) → atMostIn l v ≡ atMost w h (frameOf w l) v
+    same v =
+        let g : ℕ → ℕ = λ i. oneIf (leb (getD l i 0) v) in
+        ap (λ (n : ℕ). sum n g) (e ∙ mul-comm w h) ∙ sym (pixels-flat w h g)

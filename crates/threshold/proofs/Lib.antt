@@ -1,0 +1,4 @@
+-- Laws of the definitions in specs/.
+pub mod CountLaws
+pub mod FlatLaws
+pub mod WalkLaws

@@ -1,0 +1,19 @@
+// The offered call for the threshold of a grey frame.
+
+pub mod counts; // counts.rt: how often each grey value stands in a frame
+pub mod walk; // walk.rt: the walk over the counts
+
+ghost use mathlib.Core.Path.{_≡_};
+ghost use Rattle.rules.specs.Calls.{thresholdAnswer};
+use rules::Thresholded;
+
+// The threshold of a grey frame for a percentile of 17, 50 or 83.
+pub fn threshold(w: usize, h: usize, percentile: u32, grey: &[u8]) -> Thresholded
+    ensures { λ r. ⌜ r ≡ thresholdAnswer w h percentile (now (grey .entry)) ⌝ }
+{
+    let n = refusals::threshold_refusal(w, h, percentile, grey.len());
+    if n != 0 {
+        return Thresholded::Refused(n);
+    }
+    Thresholded::At(walk::percentile_of(grey, percentile))
+}

@@ -1,0 +1,2 @@
+-- What the functions on packed words work out, as definitions.
+pub mod Rows
