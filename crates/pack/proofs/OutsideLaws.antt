@@ -90,8 +90,7 @@ flag-past lo hi grey at n i l = ap (λ t. gate t (outsideBit lo hi (getD grey (a
 pub flags-more : (lo hi : ℕ) (grey : List ℕ) (at i : ℕ) (flags : List ℕ) (v : ℕ) → i < length flags
     → ((k : ℕ) → k < 64 → getD flags k 0 ≡ flagAt lo hi grey at i k) → v ≡ outsideBit lo hi (getD grey (at + i) 0)
     → (k : ℕ) → k < 64 → getD (set flags i v) k 0 ≡ flagAt lo hi grey at (i + 1) k
-flags-more lo hi grey at i flags v room e d k l =
-    compared k i below here above
+flags-more lo hi grey at i flags v room e d k l = compared k i below here above
   where
     below : k < i → getD (set flags i v) k 0 ≡ flagAt lo hi grey at (i + 1) k
     below m =
@@ -111,7 +110,7 @@ flags-more lo hi grey at i flags v room e d k l =
         ∙ ap (λ (j : ℕ). outsideBit lo hi (getD grey (at + j) 0)) (sym f)
         ∙ sym (flag-in lo hi grey at (i + 1) k (omega arith))
 
--- as a sum that omega reads
+-- the words of a row, as a sum that omega reads
 pub row-words : (w : ℕ) → rowWords w ≡ (w + 63) / 64
 unfolding rowWords
 row-words w = refl
