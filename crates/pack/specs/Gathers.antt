@@ -9,9 +9,10 @@ pub record Bytes (n : ℕ) (f : ℕ → ℕ) (v : ℕ) : Type 0 where
   pub small : v < 2 ^ (8 * n)
   pub bits : (k m : ℕ) → k < n → m < 8 → bit v (8 * k + m) ≡ bit (f k) m
 
--- y with bits p and p + s exchanged where bit p of the mask is 1, as a machine does it
+-- the bits of y that differ from those s above, where the mask has a 1
 abbrev pub exchangeBits : ℕ → ℕ → ℕ → ℕ
 exchangeBits mask s y = bitAnd (bitXor y (y / 2 ^ s)) mask
 
+-- y with bits p and p + s exchanged where bit p of the mask is 1, as a machine does it: both change where they differ
 unfoldable pub exchanged : ℕ → ℕ → ℕ → ℕ
 exchanged mask s y = bitXor (bitXor y (exchangeBits mask s y)) (exchangeBits mask s y * 2 ^ s % 2 ^ 64)

@@ -2,31 +2,11 @@
 
 use crate::rows::pack_row;
 ghost use mathlib.Core.Path.{_≡_};
-ghost use Prim.Native.Nat.{_+_, _*_, _-_, _≤_, min};
+ghost use Prim.Native.Nat.{_*_, _≤_};
 ghost use lib.ListN.{length};
 ghost use Rattle.rules.specs.Bitmaps.{rowWords, wordOf};
 ghost use Rattle.rules.proofs.FrameLaws.{FrameAt};
 ghost use Rattle.pack.specs.Outside.{outsidePlane};
-
-// The least grey value within the tolerance of a threshold.
-pub fn low_end(threshold: u8, tolerance: u32) -> u8
-    ensures { λ r. ⌜ r ≡ threshold - tolerance ⌝ }
-{
-    if tolerance < threshold as u32 {
-        return threshold - tolerance as u8;
-    }
-    0
-}
-
-// The greatest.
-pub fn high_end(threshold: u8, tolerance: u32) -> u8
-    ensures { λ r. ⌜ r ≡ min 255 (threshold + tolerance) ⌝ }
-{
-    if tolerance < 255 - threshold as u32 {
-        return threshold + tolerance as u8;
-    }
-    255
-}
 
 // A row is packed into both bitmaps while it is in the cache.
 pub fn pack_frame(

@@ -1,6 +1,6 @@
 // 64 flags, each 0 or 1, gathered into a word with no step for a single flag: eight words of eight
-// flags are laid over each other, which makes the word's 8 by 8 bits the flags' by columns, and three
-// exchanges of bits turn columns into rows.
+// flags, laid over each other, are the flags as 8 by 8 bits by columns, and exchanges of bits turn
+// columns into rows: of single bits, of squares of 2 by 2, of squares of 4 by 4.
 
 ghost use mathlib.Core.Path.{_≡_};
 ghost use mathlib.Core.List.{[], _∷_};
@@ -62,7 +62,7 @@ pub fn gather_word(flags: &[u8; 64]) -> u64
         | (eight_flags(flags, 40) << 5)
         | (eight_flags(flags, 48) << 6)
         | (eight_flags(flags, 56) << 7);
-    let near = exchange(0x00AA_00AA_00AA_00AA, 7, columns);
-    let far = exchange(0x0000_CCCC_0000_CCCC, 14, near);
-    exchange(0x0000_0000_F0F0_F0F0, 28, far)
+    let ones = exchange(0x00AA_00AA_00AA_00AA, 7, columns);
+    let twos = exchange(0x0000_CCCC_0000_CCCC, 14, ones);
+    exchange(0x0000_0000_F0F0_F0F0, 28, twos)
 }

@@ -1,12 +1,13 @@
 // Packing of a grey frame into its threshold bitmap and its exclusion bitmap.
 
-use frame::high_end;
-use frame::low_end;
 use frame::pack_frame;
+use interval::high_end;
+use interval::low_end;
 use rules::Written;
 
 mod frame;
 mod gather;
+pub mod interval;
 mod outside;
 pub mod rows;
 

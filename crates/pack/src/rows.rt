@@ -18,27 +18,6 @@ fn pack_word(grey: &[u8], at: usize, n: usize, lo: u8, hi: u8) -> u64
     gather_word(&flags)
 }
 
-// The words of the first `full` blocks of 64 pixels of a row.
-fn pack_blocks(
-    grey: &[u8],
-    from: usize,
-    w: usize,
-    full: usize,
-    lo: u8,
-    hi: u8,
-    out: &mut [u64],
-    to: usize,
-)
-    requires { ⌜ (from + w ≤ length (now grey)) × (full * 64 ≤ w) × (to + full ≤ length (now out)) ⌝ }
-    ensures { λ _. ⌜ RowAt to (outsideWord lo hi (now (grey .entry)) from w) (now (out .entry)) full (now (out .exit)) ⌝ }
-{
-    let mut k: usize = 0;
-    while k < full {
-        out[to + k] = pack_word(grey, from + k * 64, 64, lo, hi);
-        k += 1;
-    }
-}
-
 // The words of a row of w pixels that begins at place `from`, written from place `to` on.
 pub fn pack_row(grey: &[u8], from: usize, w: usize, lo: u8, hi: u8, out: &mut [u64], to: usize)
     requires { ⌜ (from + w ≤ length (now grey)) × (to + rowWords w ≤ length (now out)) ⌝ }
@@ -46,7 +25,11 @@ pub fn pack_row(grey: &[u8], from: usize, w: usize, lo: u8, hi: u8, out: &mut [u
 {
     let full = w / 64;
     let rest = w % 64;
-    pack_blocks(grey, from, w, full, lo, hi, out, to);
+    let mut k: usize = 0;
+    while k < full {
+        out[to + k] = pack_word(grey, from + k * 64, 64, lo, hi);
+        k += 1;
+    }
     if rest > 0 {
         out[to + full] = pack_word(grey, from + full * 64, rest, lo, hi);
     }

@@ -1,3 +1,4 @@
+-- The loop's invariant: the first y rows of both bitmaps are written, and nothing else has changed.
 use mathlib.Core.Path.{_≡_}
 use Prim.Native.Nat.{_+_, _*_, _-_, _≤_, _<_}
 use Rattle.rules.specs.Bitmaps.{rowWords, wordOf}
@@ -8,10 +9,6 @@ use native.Mathlib.Omega.{arith}
 use borrow.Author.Needs.{needs}
 use Rattle.pack.proofs.frame.pack_frame.Statement.{statement}
 use Rattle.pack.proofs.frame.pack_frame.Tie as tie
-use Rattle.pack.proofs.frame.pack_frame.Reads as reads
-use Rattle.pack.proofs.frame.pack_frame.Lts as lts
-use Rattle.pack.proofs.rows.pack_row.Reads as pack-row-reads
-use Rattle.refusals.proofs.row_words.Reads as row-words-reads
 
 abbrev Inv-loop : tie.InvT-loop
 Inv-loop w h threshold lo hi grey thresholds₀ exclusions₀ n y₀ thresholds exclusions y =
@@ -22,11 +19,9 @@ Inv-loop w h threshold lo hi grey thresholds₀ exclusions₀ n y₀ thresholds 
 abbrev μ-loop : tie.MeasureT-loop
 μ-loop w h threshold lo hi grey thresholds₀ exclusions₀ n y₀ thresholds exclusions y = h - y
 
--- src/frame.rt:47:9
 row-words-requires : tie.Need-row-words-requires Inv-loop μ-loop
 row-words-requires c κs = search needs
 
--- src/frame.rt:49:5
 loop-holds : tie.Need-loop-holds Inv-loop μ-loop
 loop-holds c =
     let a = c .before .before .before .before .args in (
@@ -46,31 +41,24 @@ inside c =
     let p = row-place (a .w) (a .h) (c .before .before .row-words .result) (c .before .loop .y) (c .before .before .row-words .ensures) l in
     (row-fits (a .w) (a .h) (c .before .loop .y) l, p .0, p .1)
 
--- src/frame.rt:50:20
 mul-from : tie.Need-mul-from Inv-loop μ-loop
 mul-from c = omega (arith, inside c, c .before .before .before .before .before .before .pre)
 
--- src/frame.rt:51:18
 mul-to : tie.Need-mul-to Inv-loop μ-loop
 mul-to c = omega (arith, inside c, c .before .before .before .before .before .before .pre)
 
--- src/frame.rt:52:9
 pack-row-requires : tie.Need-pack-row-requires Inv-loop μ-loop
 pack-row-requires c κs = omega (arith, inside (c .before), c .before .before .before .before .before .before .before .pre, c .before .before .loop .inv .1 .len)
 
--- src/frame.rt:53:9
 pack-row-requires-2 : tie.Need-pack-row-requires-2 Inv-loop μ-loop
 pack-row-requires-2 c κs = omega (arith, inside (c .before .before .before .before .before), c .before .before .before .before .before .before .before .before .before .before .before .pre, c .before .before .before .before .before .before .loop .inv .2 .len)
 
--- src/frame.rt:54:9
 add-y : tie.Need-add-y Inv-loop μ-loop
 add-y c = search needs
 
--- src/frame.rt:49:5
 loop-less : tie.Need-loop-less Inv-loop μ-loop
 loop-less c = search needs
 
--- src/frame.rt:49:5
 loop-again : tie.Need-loop-again Inv-loop μ-loop
 loop-again c =
     let s = c .before .before .before .before .before .before .before .before in
@@ -82,15 +70,12 @@ loop-again c =
       frame-row (a .lo) (a .hi) (a .w) (L .y) (a .grey .now) 0 _ (a .exclusions .now) (L .exclusions) _ (p .1) (L .inv .2) (c .before .before .pack-row2 .ensures),
     )
 
--- src/frame.rt:33:1
 same-length : tie.Need-same-length Inv-loop μ-loop
 same-length c = search needs
 
--- src/frame.rt:33:1
 same-length-2 : tie.Need-same-length-2 Inv-loop μ-loop
 same-length-2 c = search needs
 
--- src/frame.rt:33:1
 returns : tie.Need-returns Inv-loop μ-loop
 returns c =
     let e : c .before .loop .y ≡ c .before .before .before .before .before .before .args .h = omega arith in

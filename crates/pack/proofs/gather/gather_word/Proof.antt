@@ -1,62 +1,48 @@
+-- Eight words of eight flags laid over each other and turned are the word of the flags.
 use mathlib.Core.Path.{ap, _∙_}
 use Prim.Native.Nat.{_+_, _*_}
 use lib.ListN.{getD}
 use Rattle.pack.specs.Gathers.{Bytes, exchanged}
-use Rattle.pack.proofs.GatherLaws.{eight, gathered}
+use Rattle.pack.proofs.JoinLaws.{eight}
+use Rattle.pack.proofs.GatherLaws.{gathered}
 use native.Mathlib.Omega.{arith}
 use borrow.Author.Needs.{needs}
 use Rattle.pack.proofs.gather.gather_word.Statement.{statement}
 use Rattle.pack.proofs.gather.gather_word.Tie as tie
-use Rattle.pack.proofs.gather.gather_word.Reads as reads
-use Rattle.pack.proofs.gather.gather_word.Lts as lts
-use Rattle.pack.proofs.gather.eight_flags.Reads as eight-flags-reads
-use Rattle.pack.proofs.gather.exchange.Reads as exchange-reads
 
--- src/gather.rt:57:19
 eight-flags-requires : tie.Need-eight-flags-requires
 eight-flags-requires c κs = search needs
 
--- src/gather.rt:58:12
 eight-flags-requires-2 : tie.Need-eight-flags-requires-2
 eight-flags-requires-2 c κs = search needs
 
--- src/gather.rt:59:12
 eight-flags-requires-3 : tie.Need-eight-flags-requires-3
 eight-flags-requires-3 c κs = search needs
 
--- src/gather.rt:60:12
 eight-flags-requires-4 : tie.Need-eight-flags-requires-4
 eight-flags-requires-4 c κs = search needs
 
--- src/gather.rt:61:12
 eight-flags-requires-5 : tie.Need-eight-flags-requires-5
 eight-flags-requires-5 c κs = search needs
 
--- src/gather.rt:62:12
 eight-flags-requires-6 : tie.Need-eight-flags-requires-6
 eight-flags-requires-6 c κs = search needs
 
--- src/gather.rt:63:12
 eight-flags-requires-7 : tie.Need-eight-flags-requires-7
 eight-flags-requires-7 c κs = search needs
 
--- src/gather.rt:64:12
 eight-flags-requires-8 : tie.Need-eight-flags-requires-8
 eight-flags-requires-8 c κs = search needs
 
--- src/gather.rt:65:9
 exchange-requires : tie.Need-exchange-requires
 exchange-requires c κs = search needs
 
--- src/gather.rt:66:9
 exchange-requires-2 : tie.Need-exchange-requires-2
 exchange-requires-2 c κs = search needs
 
--- src/gather.rt:67:5
 exchange-requires-3 : tie.Need-exchange-requires-3
 exchange-requires-3 c κs = search needs
 
--- src/gather.rt:53:1
 returns : tie.Need-returns
 returns c =
     let c8 = c .before .before .before in

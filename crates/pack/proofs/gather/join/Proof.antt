@@ -1,15 +1,12 @@
+-- Each byte is joined above those before it.
 use mathlib.Core.List.{[], _∷_}
 use Prim.Native.Nat.{_<_}
 use lib.ListN.{getD}
-use Rattle.pack.proofs.GatherLaws.{eight, joined}
+use Rattle.pack.proofs.JoinLaws.{eight, joined}
 use native.Mathlib.Omega.{arith}
-use borrow.Author.Needs.{needs}
 use Rattle.pack.proofs.gather.join.Statement.{statement}
 use Rattle.pack.proofs.gather.join.Tie as tie
-use Rattle.pack.proofs.gather.join.Reads as reads
-use Rattle.pack.proofs.gather.join.Lts as lts
 
--- src/gather.rt:12:1
 returns : tie.Need-returns
 returns c =
     let a = c .args in

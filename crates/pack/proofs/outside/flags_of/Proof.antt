@@ -1,3 +1,4 @@
+-- The loop's invariant: the first i flags are those of their pixels, and the others are 0.
 use mathlib.Core.Path.{_≡_, refl, sym, _∙_}
 use Prim.Native.Nat.{ℕ, _-_, _≤_, _<_}
 use lib.ListN.{length, getD, length-set, getD-replicate}
@@ -7,9 +8,6 @@ use native.Mathlib.Omega.{arith}
 use borrow.Author.Needs.{needs}
 use Rattle.pack.proofs.outside.flags_of.Statement.{statement}
 use Rattle.pack.proofs.outside.flags_of.Tie as tie
-use Rattle.pack.proofs.outside.flags_of.Reads as reads
-use Rattle.pack.proofs.outside.flags_of.Lts as lts
-use Rattle.pack.proofs.outside.outside_bit.Reads as outside-bit-reads
 
 abbrev Inv-loop : tie.InvT-loop
 Inv-loop grey at n lo hi flags₀ i₀ flags i =
@@ -18,37 +16,29 @@ Inv-loop grey at n lo hi flags₀ i₀ flags i =
 abbrev μ-loop : tie.MeasureT-loop
 μ-loop grey at n lo hi flags₀ i₀ flags i = n - i
 
--- src/outside.rt:28:5
 loop-holds : tie.Need-loop-holds Inv-loop μ-loop
 loop-holds c =
     let a = c .before .args in
     (omega arith, refl, λ k l. getD-replicate 64 k 0 0 l ∙ sym (flag-past (a .lo) (a .hi) (a .grey .now) (a .at) 0 k (omega arith)))
 
--- src/outside.rt:29:37
 add-outside-bit : tie.Need-add-outside-bit Inv-loop μ-loop
 add-outside-bit c = search needs
 
--- src/outside.rt:29:32
 shared-slice-read-outside-bit : tie.Need-shared-slice-read-outside-bit Inv-loop μ-loop
 shared-slice-read-outside-bit c = search needs
 
--- src/outside.rt:29:20
 outside-bit-requires : tie.Need-outside-bit-requires Inv-loop μ-loop
 outside-bit-requires c κs = search needs
 
--- src/outside.rt:29:9
 array-write-flags : tie.Need-array-write-flags Inv-loop μ-loop
 array-write-flags c = search needs
 
--- src/outside.rt:30:9
 add-i : tie.Need-add-i Inv-loop μ-loop
 add-i c = search needs
 
--- src/outside.rt:28:5
 loop-less : tie.Need-loop-less Inv-loop μ-loop
 loop-less c = search needs
 
--- src/outside.rt:28:5
 loop-again : tie.Need-loop-again Inv-loop μ-loop
 loop-again c =
     let a = c .before .before .before .before .before .args in
@@ -59,7 +49,6 @@ loop-again c =
       flags-more (a .lo) (a .hi) (a .grey .now) (a .at) (L .i) (L .flags) (c .outside-bit .result) (omega arith) (L .inv .2) (c .outside-bit .ensures),
     )
 
--- src/outside.rt:22:1
 returns : tie.Need-returns Inv-loop μ-loop
 returns c =
     let a = c .before .before .before .args in

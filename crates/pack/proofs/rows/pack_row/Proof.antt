@@ -1,85 +1,123 @@
-use mathlib.Core.Path.{_≡_, _∙_}
-use Prim.Native.Nat.{_/_, _%_, _<_}
-use native.Mathlib.Omega.{arith}
-use Rattle.rules.proofs.FrameLaws.{RowAt, row-more}
+-- The loop's invariant: the first k words of the row are written, and nothing else has changed. The number of words is carried as a sum that omega reads.
+use mathlib.Core.Path.{_≡_}
+use Prim.Native.Nat.{_+_, _-_, _/_, _%_, _≤_}
+use Rattle.rules.specs.Bitmaps.{rowWords}
+use Rattle.rules.proofs.FrameLaws.{RowAt, row-none}
 use Rattle.pack.specs.Outside.{outsideWord}
-use Rattle.pack.proofs.OutsideLaws.{no-rest, some-rest, full-fits, word-of-flags}
+use Rattle.pack.proofs.OutsideLaws.{row-words, row-word}
+use native.Mathlib.Omega.{arith}
 use borrow.Author.Needs.{needs}
 use Rattle.pack.proofs.rows.pack_row.Statement.{statement}
 use Rattle.pack.proofs.rows.pack_row.Tie as tie
-use Rattle.pack.proofs.rows.pack_row.Reads as reads
-use Rattle.pack.proofs.rows.pack_row.Lts as lts
-use Rattle.pack.proofs.rows.pack_blocks.Reads as pack-blocks-reads
-use Rattle.pack.proofs.rows.pack_word.Reads as pack-word-reads
 
--- src/rows.rt:41:5
-pack-blocks-requires : tie.Need-pack-blocks-requires
-pack-blocks-requires c κs = omega (arith, full-fits (c .before .before .before .args .w))
+abbrev Inv-loop : tie.InvT-loop
+Inv-loop grey from w lo hi out₀ to full rest k₀ out k =
+    (k ≤ full) × (rowWords w ≡ (w + 63) / 64) × RowAt to (outsideWord lo hi grey from w) out₀ k out
 
--- src/rows.rt:43:49
-mul-pack-word : tie.Need-mul-pack-word
+abbrev μ-loop : tie.MeasureT-loop
+μ-loop grey from w lo hi out₀ to full rest k₀ out k = full - k
+
+loop-holds : tie.Need-loop-holds Inv-loop μ-loop
+loop-holds c =
+    let a = c .before .before .args in
+    (omega arith, row-words (a .w), row-none (a .to) (outsideWord (a .lo) (a .hi) (a .grey .now) (a .from) (a .w)) (a .out .now))
+
+mul-pack-word : tie.Need-mul-pack-word Inv-loop μ-loop
 mul-pack-word c = search needs
 
--- src/rows.rt:43:42
-add-pack-word : tie.Need-add-pack-word
+add-pack-word : tie.Need-add-pack-word Inv-loop μ-loop
 add-pack-word c = search needs
 
--- src/rows.rt:43:26
-pack-word-requires : tie.Need-pack-word-requires
+pack-word-requires : tie.Need-pack-word-requires Inv-loop μ-loop
 pack-word-requires c κs = search needs
 
--- src/rows.rt:43:13
-add-out : tie.Need-add-out
+add-out : tie.Need-add-out Inv-loop μ-loop
 add-out c = search needs
 
--- src/rows.rt:43:9
-mul-out : tie.Need-mul-out
+mul-out : tie.Need-mul-out Inv-loop μ-loop
 mul-out c = search needs
 
--- src/rows.rt:43:9
-slice-write-out : tie.Need-slice-write-out
-slice-write-out c =
-    let a = c .before .before .before .before .before .before .before .before .args in
-    let len = c .before .before .before .before .pack-blocks .ensures .len in
-    let l : 0 < a .w % 64 = omega arith in
-    omega (arith, some-rest (a .w) l)
+slice-write-out : tie.Need-slice-write-out Inv-loop μ-loop
+slice-write-out c = search needs
 
--- src/rows.rt:35:1
-same-length : tie.Need-same-length
+add-k : tie.Need-add-k Inv-loop μ-loop
+add-k c = search needs
+
+loop-less : tie.Need-loop-less Inv-loop μ-loop
+loop-less c = search needs
+
+loop-again : tie.Need-loop-again Inv-loop μ-loop
+loop-again c =
+    let a = c .before .before .before .before .before .args in
+    let L = c .before .before .loop in (
+      omega arith,
+      L .inv .1,
+      row-word (a .lo) (a .hi) (a .grey .now) (a .from) (a .w) (a .to) (L .k) 64 (a .out .now) (L .out) (c .pack-word .result) (omega arith) (omega arith)
+          (c .pack-word .ensures) (L .inv .2),
+    )
+
+mul-pack-word-2 : tie.Need-mul-pack-word-2 Inv-loop μ-loop
+mul-pack-word-2 c = search needs
+
+add-pack-word-2 : tie.Need-add-pack-word-2 Inv-loop μ-loop
+add-pack-word-2 c = search needs
+
+pack-word-requires-2 : tie.Need-pack-word-requires-2 Inv-loop μ-loop
+pack-word-requires-2 c κs = search needs
+
+add-out-2 : tie.Need-add-out-2 Inv-loop μ-loop
+add-out-2 c = search needs
+
+mul-out-2 : tie.Need-mul-out-2 Inv-loop μ-loop
+mul-out-2 c = search needs
+
+slice-write-out-2 : tie.Need-slice-write-out-2 Inv-loop μ-loop
+slice-write-out-2 c = search needs
+
+same-length : tie.Need-same-length Inv-loop μ-loop
 same-length c = search needs
 
--- src/rows.rt:35:1
-returns : tie.Need-returns
+returns : tie.Need-returns Inv-loop μ-loop
 returns c =
-    let a = c .before .before .before .before .before .before .before .before .args in
-    let q = c .before .before .before .before .pack-blocks in
-    let l : 0 < a .w % 64 = omega arith in
-    let e = some-rest (a .w) l in
-    rw e at
-    (row-more (a .to) (outsideWord (a .lo) (a .hi) (a .grey .now) (a .from) (a .w)) (a .out .now) (a .w / 64) (q .last .1 .1 .1 .1 .1 .1 .0) (c .pack-word .result)
-    (omega arith) (q .ensures) (c .pack-word .ensures ∙ word-of-flags (a .lo) (a .hi) (a .grey .now) (a .from) (a .w) (a .w / 64) (a .w % 64) (omega arith)))
+    let a = c .before .before .before .before .before .before .args in
+    let L = c .before .before .before .loop in
+    let full : L .k ≡ a .w / 64 = omega arith in
+    let more : a .w / 64 + 1 ≡ rowWords (a .w) = omega arith in
+    let r : RowAt (a .to) (outsideWord (a .lo) (a .hi) (a .grey .now) (a .from) (a .w)) (a .out .now) (a .w / 64) (L .out) = rw full at (L .inv .2) in
+    rw more at
+    (row-word (a .lo) (a .hi) (a .grey .now) (a .from) (a .w) (a .to) (a .w / 64) (a .w % 64) (a .out .now) (L .out) (c .pack-word2 .result)
+    (omega arith) (omega arith) (c .pack-word2 .ensures) r)
 
--- src/rows.rt:35:1
-same-length-2 : tie.Need-same-length-2
+same-length-2 : tie.Need-same-length-2 Inv-loop μ-loop
 same-length-2 c = search needs
 
--- src/rows.rt:35:1
-returns-2 : tie.Need-returns-2
+returns-2 : tie.Need-returns-2 Inv-loop μ-loop
 returns-2 c =
-    let e = no-rest (c .before .before .before .before .before .before .before .args .w) (omega arith) in
-    rw e at (c .before .before .before .pack-blocks .ensures)
+    let all : c .before .before .loop .k ≡ rowWords (c .before .before .before .before .before .args .w) = omega arith in
+    rw all at (c .before .before .loop .inv .2)
 
 pub pack-row-spec : {M : Type 1} → statement M
 pack-row-spec =
     tie.close
     (tie.spec
-    pack-blocks-requires
+    Inv-loop
+    μ-loop
+    loop-holds
     mul-pack-word
     add-pack-word
     pack-word-requires
     add-out
     mul-out
     slice-write-out
+    add-k
+    loop-less
+    loop-again
+    mul-pack-word-2
+    add-pack-word-2
+    pack-word-requires-2
+    add-out-2
+    mul-out-2
+    slice-write-out-2
     same-length
     returns
     same-length-2

@@ -1,22 +1,16 @@
+-- The flags are 0 or 1, so that they gather to the word of them.
 use mathlib.Core.Path.{_≡_, _∙_}
 use lib.ListN.{getD}
 use Rattle.words.proofs.BitLaws.{word-ext}
 use Rattle.pack.specs.Outside.{flagAt}
 use Rattle.pack.proofs.OutsideLaws.{flag-lt}
-use native.Mathlib.Omega.{arith}
 use borrow.Author.Needs.{needs}
 use Rattle.pack.proofs.rows.pack_word.Statement.{statement}
 use Rattle.pack.proofs.rows.pack_word.Tie as tie
-use Rattle.pack.proofs.rows.pack_word.Reads as reads
-use Rattle.pack.proofs.rows.pack_word.Lts as lts
-use Rattle.pack.proofs.gather.gather_word.Reads as gather-word-reads
-use Rattle.pack.proofs.outside.flags_of.Reads as flags-of-reads
 
--- src/rows.rt:18:17
 flags-of-requires : tie.Need-flags-of-requires
 flags-of-requires c κs = search needs
 
--- src/rows.rt:19:5
 gather-word-requires : tie.Need-gather-word-requires
 gather-word-requires c κs =
     λ i l.
@@ -24,7 +18,6 @@ gather-word-requires c κs =
     let e : getD (c .before .flags-of .result) i 0 ≡ flagAt (a .lo) (a .hi) (a .grey .now) (a .at) (a .n) i = c .before .flags-of .ensures i l in
     rw e (flag-lt (a .lo) (a .hi) (a .grey .now) (a .at) (a .n) i)
 
--- src/rows.rt:14:1
 returns : tie.Need-returns
 returns c = c .gather-word .ensures ∙ word-ext _ _ (c .before .before .flags-of .ensures)
 
