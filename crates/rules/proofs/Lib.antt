@@ -5,5 +5,6 @@ pub mod RefusalLaws
 pub mod GreyLaws
 pub mod ThresholdLaws
 pub mod DifferenceLaws
+pub mod AlignmentLaws
 pub mod BoundLaws
 pub mod ExampleLaws
