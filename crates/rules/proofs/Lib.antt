@@ -5,6 +5,7 @@ pub mod RefusalLaws
 pub mod GreyLaws
 pub mod ThresholdLaws
 pub mod DifferenceLaws
+pub mod AlignmentLaws
 pub mod BoundLaws
 pub mod LevelLaws
 pub mod SignedLaws

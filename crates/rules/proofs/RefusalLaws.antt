@@ -77,7 +77,7 @@ size-ok w h e =
 pub size-told : (w h n : ℕ) → n ≡ 2 when badSize w h → n ≡ 0 → SizeOk w h
 size-told w h n e z = size-ok w h (sym e ∙ z)
 
-length-is : (needed length : ℕ) → wrongLength needed length ≡ false → length ≡ needed
+pub length-is : (needed length : ℕ) → wrongLength needed length ≡ false → length ≡ needed
 length-is needed length e = eqb-true length needed (not-false (eqb length needed) e)
 
 -- What an accepted call knows.
@@ -128,7 +128,7 @@ pub record ThresholdOk (w h percentile grey : ℕ) : Type 0 where
   pub most : percentile ≤ 99
   pub exact : grey ≡ w * h
 
-percentile-ok : (p : ℕ) → badPercentile p ≡ false → (1 ≤ p) × (p ≤ 99)
+pub percentile-ok : (p : ℕ) → badPercentile p ≡ false → (1 ≤ p) × (p ≤ 99)
 unfolding badPercentile
 percentile-ok p e = at17 (eqb p 17) refl
   where
