@@ -8,4 +8,5 @@ pub mod DifferenceLaws
 pub mod BoundLaws
 pub mod LevelLaws
 pub mod SignedLaws
+pub mod SeriesLaws
 pub mod ExampleLaws
