@@ -1,123 +1,123 @@
+-- The loop's invariant: frames r to k have their offsets, and all else is as it came. So each number that a turn adds is small.
+use mathlib.Core.Path.{_≡_}
+use Prim.Native.Nat.{_+_, _*_, _-_, _≤_, _<_}
+use lib.IntN.{pos}
+use lib.ListN.{getD, length-set}
+use Rattle.rules.proofs.SignedLaws.{sum-bits-fit}
+use Rattle.offsets.specs.Held.{SummedFrom}
+use Rattle.offsets.proofs.SlotLaws.{Small, up-small, sums-fit, summed-none, up-again}
 use native.Mathlib.Omega.{arith}
 use borrow.Author.Needs.{needs}
 use Rattle.offsets.proofs.sum_up.Statement.{statement}
 use Rattle.offsets.proofs.sum_up.Tie as tie
-use Rattle.offsets.proofs.sum_up.Reads as reads
-use Rattle.offsets.proofs.sum_up.Lts as lts
 
 abbrev Inv-loop : tie.InvT-loop
-Inv-loop offsets₀ n r k₀ offsets k = ?
+Inv-loop offsets₀ n r k₀ offsets k = (r ≤ k) × (k < n) × SummedFrom offsets₀ offsets r r (k + 1)
 
 abbrev μ-loop : tie.MeasureT-loop
-μ-loop offsets₀ n r k₀ offsets k = ?
+μ-loop offsets₀ n r k₀ offsets k = n - k
 
--- src/lib.rt:16:5
+small : (c : tie.In-loop Inv-loop μ-loop) → Small (c .before .loop .offsets) (2 * c .before .loop .k) (2 * c .before .loop .k + 2)
+small c =
+    let a = c .before .before in
+    let l = c .before .loop in
+    up-small (a .args .offsets .now) (l .offsets) (a .args .n) (a .args .r) (l .k) (a .pre .0 .1) (a .pre .1) (l .inv .0) (c .loop-test .taken) (l .inv .2)
+
 loop-holds : tie.Need-loop-holds Inv-loop μ-loop
-loop-holds c = ?
+loop-holds c = (omega arith, omega arith, summed-none (c .args .offsets .now) (c .args .n) (c .args .r) (c .pre .1))
 
--- src/lib.rt:16:11
 add-loop : tie.Need-add-loop Inv-loop μ-loop
 add-loop c = search needs
 
--- src/lib.rt:17:20
 mul-from : tie.Need-mul-from Inv-loop μ-loop
 mul-from c = search needs
 
--- src/lib.rt:18:18
 mul-to : tie.Need-mul-to Inv-loop μ-loop
 mul-to c = search needs
 
--- src/lib.rt:18:18
 add-to : tie.Need-add-to Inv-loop μ-loop
 add-to c = search needs
 
--- src/lib.rt:19:23
 mul-offsets : tie.Need-mul-offsets Inv-loop μ-loop
 mul-offsets c = search needs
 
--- src/lib.rt:19:23
 slice-copy-out-offsets : tie.Need-slice-copy-out-offsets Inv-loop μ-loop
 slice-copy-out-offsets c = search needs
 
--- src/lib.rt:19:39
 mul-offsets-2 : tie.Need-mul-offsets-2 Inv-loop μ-loop
 mul-offsets-2 c = search needs
 
--- src/lib.rt:19:39
 slice-copy-out-offsets-2 : tie.Need-slice-copy-out-offsets-2 Inv-loop μ-loop
 slice-copy-out-offsets-2 c = search needs
 
--- src/lib.rt:19:23
 add-offsets : tie.Need-add-offsets Inv-loop μ-loop
-add-offsets c = search needs
+add-offsets c =
+    let n = small (c .before .before) in
+    let l = c .before .before .before .loop in
+    sum-bits-fit (getD (l .offsets) (2 * l .k) (pos 0)) (getD (l .offsets) (2 * l .k + 2) (pos 0)) (n .0 .dx) (n .1 .dx)
 
--- src/lib.rt:19:9
 mul-offsets-3 : tie.Need-mul-offsets-3 Inv-loop μ-loop
 mul-offsets-3 c = search needs
 
--- src/lib.rt:19:9
 slice-set-from-offsets : tie.Need-slice-set-from-offsets Inv-loop μ-loop
 slice-set-from-offsets c = search needs
 
--- src/lib.rt:20:35
 add-offsets-2 : tie.Need-add-offsets-2 Inv-loop μ-loop
 add-offsets-2 c = search needs
 
--- src/lib.rt:20:27
 mul-offsets-4 : tie.Need-mul-offsets-4 Inv-loop μ-loop
 mul-offsets-4 c = search needs
 
--- src/lib.rt:20:27
 slice-copy-out-offsets-3 : tie.Need-slice-copy-out-offsets-3 Inv-loop μ-loop
-slice-copy-out-offsets-3 c = search needs
+slice-copy-out-offsets-3 c = simp length-set (omega arith)
 
--- src/lib.rt:20:55
 add-offsets-3 : tie.Need-add-offsets-3 Inv-loop μ-loop
 add-offsets-3 c = search needs
 
--- src/lib.rt:20:47
 mul-offsets-5 : tie.Need-mul-offsets-5 Inv-loop μ-loop
 mul-offsets-5 c = search needs
 
--- src/lib.rt:20:47
 slice-copy-out-offsets-4 : tie.Need-slice-copy-out-offsets-4 Inv-loop μ-loop
-slice-copy-out-offsets-4 c = search needs
+slice-copy-out-offsets-4 c = simp length-set (omega arith)
 
--- src/lib.rt:20:27
 add-offsets-4 : tie.Need-add-offsets-4 Inv-loop μ-loop
-add-offsets-4 c = search needs
+add-offsets-4 c =
+    let l = c .before .before .before .before .before .loop in
+    sums-fit (l .offsets) (2 * l .k) (2 * l .k + 2) _ (λ e. omega arith) (small (c .before .before .before .before))
 
--- src/lib.rt:20:17
 add-t20 : tie.Need-add-t20 Inv-loop μ-loop
 add-t20 c = search needs
 
--- src/lib.rt:20:9
 mul-t21 : tie.Need-mul-t21 Inv-loop μ-loop
 mul-t21 c = search needs
 
--- src/lib.rt:20:9
 slice-set-from-offsets-2 : tie.Need-slice-set-from-offsets-2 Inv-loop μ-loop
-slice-set-from-offsets-2 c = search needs
+slice-set-from-offsets-2 c = simp length-set (omega arith)
 
--- src/lib.rt:21:9
 add-k : tie.Need-add-k Inv-loop μ-loop
 add-k c = search needs
 
--- src/lib.rt:16:5
 loop-less : tie.Need-loop-less Inv-loop μ-loop
 loop-less c = search needs
 
--- src/lib.rt:16:5
 loop-again : tie.Need-loop-again Inv-loop μ-loop
-loop-again c = ?
+loop-again c =
+    let i = c .before .before .before .before in
+    let a = i .before .before in
+    let l = i .before .loop in (
+      omega arith,
+      omega arith,
+      up-again (a .args .offsets .now) (l .offsets) (a .args .n) (a .args .r) (l .k) (a .pre .0 .1) (a .pre .0 .2) (a .pre .1) (l .inv .0) (i .loop-test .taken) (l .inv .2),
+    )
 
--- src/lib.rt:10:1
 same-length : tie.Need-same-length Inv-loop μ-loop
 same-length c = search needs
 
--- src/lib.rt:10:1
 returns : tie.Need-returns Inv-loop μ-loop
-returns c = ?
+returns c =
+    let l = c .before .loop in
+    let e : l .k + 1 ≡ c .before .before .args .n = omega arith in
+    rw (← e) (l .inv .2)
 
 pub sum-up-spec : {M : Type 1} → statement M
 sum-up-spec =
