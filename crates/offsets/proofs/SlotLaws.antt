@@ -11,13 +11,14 @@ use borrow.Author.Tests.{lt-ltb, le-ltb}
 use mir.Syntax.{w32}
 use mir.Val.{SFits, toZ, ofZ}
 use Rattle.rules.specs.declared.Offset.{Offset}
+use Rattle.rules.specs.Frames.{writtenOver}
 use Rattle.rules.specs.Planes.{distance}
 use Rattle.rules.specs.Levels.{still, added}
-use Rattle.rules.specs.Series.{opposite, frameOffset}
+use Rattle.rules.specs.Series.{opposite, frameOffset, offsetList}
 use Rattle.rules.proofs.SumLaws.{order}
 use Rattle.rules.proofs.BoundLaws.{Near, near-frame, near-more}
 use Rattle.rules.proofs.SignedLaws.{sum-is, sum-bits-fit, difference-is, difference-bits-fit}
-use Rattle.rules.proofs.SeriesLaws.{frame-at, frame-up, frame-down, frame-ext}
+use Rattle.rules.proofs.SeriesLaws.{frame-at, frame-up, frame-down, frame-ext, offset-list}
 use Rattle.offsets.specs.Held.{offsetAt, slotOf, heldAt, Summed, Cleared, SummedFrom}
 
 slot-below : (r j : ℕ) → j < r → slotOf r j ≡ j
@@ -127,10 +128,10 @@ summed-none l n r c = record {
   over = λ m l. refl;
 }
 
-held-above : (l : List ℤ) (r k : ℕ) → r ≤ k → heldAt l r k ≡ offsetAt l (2 * k + 2)
+pub held-above : (l : List ℤ) (r k : ℕ) → r ≤ k → heldAt l r k ≡ offsetAt l (2 * k + 2)
 held-above l r k a = at-same l (2 * slotOf r k) (2 * k + 2) (let e = slot-above r k a in omega arith)
 
-held-below : (l : List ℤ) (r k : ℕ) → k < r → heldAt l r k ≡ offsetAt l (2 * k)
+pub held-below : (l : List ℤ) (r k : ℕ) → k < r → heldAt l r k ≡ offsetAt l (2 * k)
 held-below l r k a = at-same l (2 * slotOf r k) (2 * k) (let e = slot-below r k a in omega arith)
 
 -- A turn upwards: frame k + 1 from frame k.
@@ -208,16 +209,16 @@ pub up-small : (before after : List ℤ) (n r k : ℕ) → n ≤ 16 → Cleared 
 up-small before after n r k t c a b s = (
   rw (s .done k a (omega arith)) (frame-small before n r (n - 1) k c (λ j l. let m = slot-le r j in omega arith) (omega arith) (omega arith) (omega arith)),
   rw (at-kept after before (2 * k + 2) (s .over (2 * k + 2) (omega arith)) (s .over (2 * k + 2 + 1) (omega arith)))
-  (near-more 511 2000000 (offsetAt before (2 * k + 2)) (omega arith) (record { dx = c .small (2 * k + 2) (omega arith); dy = c .small (2 * k + 2 + 1) (omega arith) })),
+      (near-more 511 2000000 (offsetAt before (2 * k + 2)) (omega arith) (record { dx = c .small (2 * k + 2) (omega arith); dy = c .small (2 * k + 2 + 1) (omega arith) })),
 )
 
 pub down-small : (before after : List ℤ) (r j k : ℕ) → r < 16 → Cleared before r r → k ≡ j + 1 → k ≤ r → SummedFrom before after r k (r + 1)
     → Small after (2 * j + 2) (2 * j)
 down-small before after r j k t c e a s = (
   rw (at-same after (2 * j + 2) (2 * k) (omega arith) ∙ s .done k (omega arith) (omega arith))
-  (frame-small before r r r k c (λ i l. let m = slot-below r i l in omega arith) (omega arith) a (omega arith)),
+      (frame-small before r r r k c (λ i l. let m = slot-below r i l in omega arith) (omega arith) a (omega arith)),
   rw (at-kept after before (2 * j) (s .under (2 * j) (omega arith)) (s .under (2 * j + 1) (omega arith)))
-  (near-more 511 2000000 (offsetAt before (2 * j)) (omega arith) (record { dx = c .small (2 * j) (omega arith); dy = c .small (2 * j + 1) (omega arith) })),
+      (near-more 511 2000000 (offsetAt before (2 * j)) (omega arith) (record { dx = c .small (2 * j) (omega arith); dy = c .small (2 * j + 1) (omega arith) })),
 )
 
 second-small : (l : List ℤ) (to p : ℕ) (x : ℤ) → (p + 1 ≡ to → ⊥) → Near 2000000 (offsetAt l p) → natAbs (getD (set l to x) (p + 1) (pos 0)) ≤ 2000000
@@ -258,9 +259,9 @@ zero-small l i m room s =
     ⊎-elim
     (λ (k : m < i). rw (getD-set-other l i m (pos 0) (pos 0) (λ e. omega arith)) s)
     (λ (k : i ≤ m). ⊎-elim
-      (λ (j : i < m). rw (getD-set-other l i m (pos 0) (pos 0) (λ e. omega arith)) s)
-      (λ (j : m ≤ i). let e : m ≡ i = omega arith in rw (e, getD-set-same l i (pos 0) (pos 0) room) (omega arith))
-      (order i m))
+    (λ (j : i < m). rw (getD-set-other l i m (pos 0) (pos 0) (λ e. omega arith)) s)
+    (λ (j : m ≤ i). let e : m ≡ i = omega arith in rw (e, getD-set-same l i (pos 0) (pos 0) room) (omega arith))
+    (order i m))
     (order m i)
 
 module _ (before : List ℤ) (n r : ℕ) (inside : r < n) (room : 2 * n ≤ length before) where
@@ -315,3 +316,17 @@ module _ (before : List ℤ) (n r : ℕ) (inside : r < n) (room : 2 * n ≤ leng
 
         done : (k : ℕ) → k < n → offsetAt after (2 * k) ≡ frameOffset (heldAt before r) r k
         done k l = ⊎-elim (lower k) (upper k l) (order k (r + 1))
+
+-- The buffer of a series call when it returns: `entry` as lent, `before` with its pairs' offsets d, `after` with its frames'.
+pub summed-list : (entry before after : List ℤ) (n r : ℕ) (d : ℕ → Offset) → r < n → 2 * n ≤ length entry
+    → length before ≡ length entry → ((m : ℕ) → 2 * n ≤ m → getD before m (pos 0) ≡ getD entry m (pos 0))
+    → ((j : ℕ) → j + 1 < n → heldAt before r j ≡ d j)
+    → Summed before after n r → after ≡ writtenOver (offsetList n (frameOffset d r)) entry
+summed-list entry before after n r d inside room len excess held s =
+    offset-list n (frameOffset d r) entry after (s .len ∙ len) room
+    (λ k l. s .dx k l ∙ ap (λ (m : Offset). m .dx) (same k l))
+    (λ k l. s .dy k l ∙ ap (λ (m : Offset). m .dy) (same k l))
+    (λ m l. s .over m l ∙ excess m l)
+  where
+    same : (k : ℕ) → k < n → frameOffset (heldAt before r) r k ≡ frameOffset d r k
+    same k l = frame-ext (heldAt before r) d r k (λ j a b. held j (omega arith))
