@@ -125,7 +125,7 @@ near-frame b d n r k l m near = split (leb r k) refl
         rw (← e) (near-opposite ((r - k) * b) (sumFrom d k (r - k)) (near-sum b d k (r - k) (λ j i. near j (omega arith))))
 
 -- an offset list holds frame k's offset at places 2k and 2k + 1
-length-offsets : (n : ℕ) (f : ℕ → Offset) → length (offsetList n f) ≡ 2 * n
+pub length-offsets : (n : ℕ) (f : ℕ → Offset) → length (offsetList n f) ≡ 2 * n
 unfolding offsetList
 length-offsets zero f = refl
 length-offsets (suc n) f = length-append (offsetList n f) (f n .dx ∷ f n .dy ∷ []) ∙ (let a = length-offsets n f in omega arith)

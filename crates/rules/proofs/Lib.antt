@@ -10,4 +10,5 @@ pub mod BoundLaws
 pub mod LevelLaws
 pub mod SignedLaws
 pub mod PairLaws
+pub mod SeriesLaws
 pub mod ExampleLaws

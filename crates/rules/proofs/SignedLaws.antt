@@ -3,12 +3,12 @@ use mathlib.Core.Path.{_≡_, refl, sym, ap, ap₂, _∙_}
 use Prim.Native.Nat.{ℕ, suc, _≤_, _<_, _^_}
 use native.Mathlib.Nat.{le-refl}
 use native.Mathlib.Omega.{arith}
-use lib.IntN.{ℤ, pos, negsuc, natAbs, _+ℤ_, _-ℤ_}
+use lib.IntN.{ℤ, pos, negsuc, natAbs, negℤ, _+ℤ_, _-ℤ_}
 use lib.Signed.{mag}
 use mir.Syntax.{w32}
 use mir.Val.{SFits, toZ, ofZ}
 use mir.Facts.{toZ-ofZ}
-use Rattle.rules.proofs.BoundLaws.{abs-add}
+use Rattle.rules.proofs.BoundLaws.{abs-add, abs-neg}
 
 mag-le : (z : ℤ) → mag z ≤ natAbs z
 mag-le (pos n) = le-refl n
@@ -32,3 +32,16 @@ sum-is a b k l =
 
 pub sum-bits-fit : (a b : ℤ) → natAbs a ≤ 2000000 → natAbs b ≤ 2000000 → SFits w32 (toZ w32 (ofZ w32 a) +ℤ toZ w32 (ofZ w32 b))
 sum-bits-fit a b k l = rw (bits-are a (omega arith), bits-are b (omega arith)) (sum-fits a b k l)
+
+-- the same of a difference
+pub difference-fits : (a b : ℤ) → natAbs a ≤ 2000000 → natAbs b ≤ 2000000 → SFits w32 (a -ℤ b)
+difference-fits a b k l = sum-fits a (negℤ b) k (rw (abs-neg b) l)
+
+pub difference-is : (a b : ℤ) → natAbs a ≤ 2000000 → natAbs b ≤ 2000000
+    → toZ w32 (ofZ w32 (toZ w32 (ofZ w32 a) -ℤ toZ w32 (ofZ w32 b))) ≡ a -ℤ b
+difference-is a b k l =
+    ap₂ (λ (x y : ℤ). toZ w32 (ofZ w32 (x -ℤ y))) (bits-are a (omega arith)) (bits-are b (omega arith))
+    ∙ toZ-ofZ (difference-fits a b k l)
+
+pub difference-bits-fit : (a b : ℤ) → natAbs a ≤ 2000000 → natAbs b ≤ 2000000 → SFits w32 (toZ w32 (ofZ w32 a) -ℤ toZ w32 (ofZ w32 b))
+difference-bits-fit a b k l = rw (bits-are a (omega arith), bits-are b (omega arith)) (difference-fits a b k l)

@@ -1,0 +1,2 @@
+-- Laws of the buffer of offsets.
+pub mod SlotLaws
