@@ -3,7 +3,7 @@
 use frame::{high_end, low_end, pack_frame};
 use rules::Written;
 
-mod frame;
+pub mod frame;
 mod gather;
 mod outside;
 pub mod rows;

@@ -1,0 +1,1 @@
+// One level of the alignment of two grey frames that stand in lent memory.
