@@ -21,7 +21,7 @@ use Rattle.rules.specs.Levels.{byTolerance, planesBy, countAt}
 use Rattle.rules.specs.Calls.{planesOf}
 use Rattle.rules.specs.declared.Offset.{Offset}
 use Rattle.rules.proofs.SumLaws.{order, pixels-ext}
-use Rattle.rules.proofs.FrameLaws.{RowAt, pixel-fits}
+use Rattle.rules.proofs.FrameLaws.{RowAt, row-fits, pixel-fits}
 use Rattle.rules.proofs.ThresholdLaws.{least-ext}
 use Rattle.rules.proofs.DifferenceLaws.{SamePlanes, difference-ext}
 use Rattle.words.proofs.BitLaws.{word-bit}
@@ -40,17 +40,18 @@ threshold-ext w h percentile f g e =
     (λ v m. ap (λ (n : ℕ). leb (percentile * (w * h)) (100 * n))
     (pixels-ext w h (λ x y. oneIf (leb (f x y) v)) (λ x y. oneIf (leb (g x y) v)) (λ x y k l. ap (λ (a : ℕ). oneIf (leb a v)) (e x y k l))))
 
--- The threshold of the part of a list that holds a frame, whatever stands after it.
-pub part-threshold : (w h percentile from : ℕ) (grey : List ℕ) → from + w * h ≤ length grey
-    → thresholdIn percentile (take (from + w * h - from) (drop from grey)) ≡ threshold w h percentile (frameOf w (drop from grey))
-unfolding frameOf
-part-threshold w h percentile from grey room =
-    let n : ℕ = from + w * h - from in
-    let e : n ≡ w * h = omega arith in
-    let size : length (take n (drop from grey)) ≡ w * h = length-take n (drop from grey) ∙ (let a = length-drop from grey in omega arith) in
-    threshold-flat w h percentile (take n (drop from grey)) size
-    ∙ threshold-ext w h percentile (frameOf w (take n (drop from grey))) (frameOf w (drop from grey))
-    (λ x y k l. getD-take n (drop from grey) (y * w + x) 0 (let a = pixel-fits w h x y k l in omega arith))
+-- The part of a list that holds a frame, whatever stands after it: its length, and its threshold.
+module _ (w h from : ℕ) (grey : List ℕ) (room : from + w * h ≤ length grey) where
+  pub part-length : length (take (from + w * h - from) (drop from grey)) ≡ w * h
+  part-length = length-take (from + w * h - from) (drop from grey) ∙ (let a = length-drop from grey in omega arith)
+
+  pub part-threshold : (percentile : ℕ) → thresholdIn percentile (take (from + w * h - from) (drop from grey)) ≡ threshold w h percentile (frameOf w (drop from grey))
+  unfolding frameOf
+  part-threshold percentile =
+      let part : List ℕ = take (from + w * h - from) (drop from grey) in
+      threshold-flat w h percentile part part-length
+      ∙ threshold-ext w h percentile (frameOf w part) (frameOf w (drop from grey))
+      (λ x y k l. getD-take (from + w * h - from) (drop from grey) (y * w + x) 0 (let a = pixel-fits w h x y k l in omega arith))
 
 gate-lt : (t : Bool) (n : ℕ) → n < 2 → gate t n < 2
 gate-lt true n l = l
@@ -100,15 +101,23 @@ both-more first second n f g before y old mid new apart b r s = record {
         let d : z ≡ y = omega arith in
         ap (λ (j : ℕ). getD new (second + (j * n + x)) 0) d ∙ ap (λ (j : ℕ). getD new j 0) (sym (add-assoc second (y * n) x)) ∙ s .done x k ∙ ap (g x) (sym d)
 
--- Row y of the frame that begins at place `from` of a grey list.
-pub row-of : (lo hi w from y : ℕ) (grey : List ℕ) (place : ℕ) → place ≡ from + y * w
-    → outsideWord lo hi grey place w ≡ (λ k. wordOf w (outsidePlane lo hi w (drop from grey)) k y)
+-- the words of row y of the frame that begins at place `from` of a grey list
+row-of : (lo hi w from y : ℕ) (grey : List ℕ) → outsideWord lo hi grey (from + y * w) w ≡ (λ k. wordOf w (outsidePlane lo hi w (drop from grey)) k y)
 unfolding outsideWord outsidePlane wordOf frameOf
-row-of lo hi w from y grey place e =
-    λ i k. word (λ j. gate (ltb (k * 64 + j) w) (outsideBit lo hi (same (k * 64 + j) i)))
+row-of lo hi w from y grey = λ i k. word (λ j. gate (ltb (k * 64 + j) w) (outsideBit lo hi (same (k * 64 + j) i)))
   where
-    same : (x : ℕ) → getD grey (place + x) 0 ≡ getD (drop from grey) (y * w + x) 0
-    same x = ap (λ (j : ℕ). getD grey j 0) (let a = e in omega arith) ∙ sym (getD-drop from grey (y * w + x) 0)
+    same : (x : ℕ) → getD grey (from + y * w + x) 0 ≡ getD (drop from grey) (y * w + x) 0
+    same x = ap (λ (j : ℕ). getD grey j 0) (add-assoc from (y * w) x) ∙ sym (getD-drop from grey (y * w + x) 0)
+
+-- one row of a grey frame more in both bitmaps
+pub packed-more : (t lo hi w h from y : ℕ) (grey : List ℕ) (to n : ℕ) (before old mid new : List ℕ) → n ≡ rowWords w → y < h
+    → BothAt to (to + rowWords w * h) (rowWords w) (wordOf w (outsidePlane 0 t w (drop from grey))) (wordOf w (outsidePlane lo hi w (drop from grey))) before y old
+    → RowAt (to + y * n) (outsideWord 0 t grey (from + y * w) w) old (rowWords w) mid
+    → RowAt (to + rowWords w * h + y * n) (outsideWord lo hi grey (from + y * w) w) mid (rowWords w) new
+    → BothAt to (to + rowWords w * h) (rowWords w) (wordOf w (outsidePlane 0 t w (drop from grey))) (wordOf w (outsidePlane lo hi w (drop from grey))) before (y + 1) new
+packed-more t lo hi w h from y grey to n before old mid new e l b r s =
+    both-more to (to + rowWords w * h) (rowWords w) (wordOf w (outsidePlane 0 t w (drop from grey))) (wordOf w (outsidePlane lo hi w (drop from grey))) before y old mid new
+    (let a = row-fits (rowWords w) h y l in omega arith) b (rw (e, row-of) at r) (rw (e, row-of) at s)
 
 -- The bits of a plane are those of its words, wherever these begin.
 bits-packed : (w h to : ℕ) (f : Frame) (words : List ℕ) → ((x y : ℕ) → f x y < 2)
