@@ -1,13 +1,12 @@
 -- The offset of a level by the place of its count among the nine.
 use mathlib.Core.Path.{_≡_, sym, _∙_}
 use mathlib.Core.List.{List, map}
-use Prim.Native.Nat.{ℕ, _+_, _≤_, _<_}
+use Prim.Native.Nat.{ℕ}
 use native.Mathlib.Omega.{arith}
-use lib.ListN.{getD}
 use Rattle.rules.specs.declared.Offset.{Offset}
 use Rattle.rules.specs.Levels.{wardOrder, added, chosen}
 use Rattle.rules.proofs.FrameLaws.{RowAt}
-use Rattle.rules.proofs.LevelLaws.{FirstLeast, candidateAt, chosen-is}
+use Rattle.rules.proofs.LevelLaws.{candidateAt, chosen-is}
 use Rattle.candidates.specs.Leading.{Leading}
 use Rattle.level.specs.Choices.{nineOf, Settled}
 
@@ -26,9 +25,9 @@ chosen-at count centre at before after best r p =
     }))
 
 -- a level's answer, by another count that is the same
-pub settled : (count same : Offset → ℕ) (centre : Offset) (at : ℕ) (before after : List ℕ) (best : ℕ) (offset : Offset)
-    → ((m : Offset) → count m ≡ same m) → RowAt at (nineOf count centre) before 9 after → Leading after at 9 best → offset ≡ candidateAt centre best
-    → Settled same centre at before after offset
-settled count same centre at before after best offset e r p o =
-    let s : RowAt at (nineOf same centre) before 9 after = row-ext at (nineOf count centre) (nineOf same centre) before 9 after (λ k. e (candidateAt centre k)) r in
-    record { first = o ∙ chosen-at same centre at before after best s p; counts = s }
+pub settled : (count same : Offset → ℕ) (centre : Offset) (at : ℕ) (before after : List ℕ) (best : ℕ) (r : Offset)
+    → ((m : Offset) → count m ≡ same m) → RowAt at (nineOf count centre) before 9 after → Leading after at 9 best → r ≡ candidateAt centre best
+    → Settled same centre at before after r
+settled count same centre at before after best r e written p o =
+    let s : RowAt at (nineOf same centre) before 9 after = row-ext at (nineOf count centre) (nineOf same centre) before 9 after (λ k. e (candidateAt centre k)) written in
+    record { offset = o ∙ chosen-at same centre at before after best s p; counts = s }

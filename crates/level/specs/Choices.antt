@@ -12,6 +12,6 @@ abbrev pub nineOf : (Offset → ℕ) → Offset → ℕ → ℕ
 nineOf count centre k = count (candidateAt centre k)
 
 -- a level's answer: the nine counts stand from place `at` on, and the offset is the first with the least
-pub record Settled (count : Offset → ℕ) (centre : Offset) (at : ℕ) (before after : List ℕ) (offset : Offset) : Type 0 where
-  pub first : offset ≡ chosen count (map (added centre) wardOrder)
+pub record Settled (count : Offset → ℕ) (centre : Offset) (at : ℕ) (before after : List ℕ) (r : Offset) : Type 0 where
+  pub offset : r ≡ chosen count (map (added centre) wardOrder)
   pub counts : RowAt at (nineOf count centre) before 9 after

@@ -1,10 +1,10 @@
 // Both bitmaps of a grey frame that stands in lent memory, into lent words.
 
-use pack::frame::{high_end, low_end};
+use pack::frame::high_end;
+use pack::frame::low_end;
 use pack::rows::pack_row;
 use refusals::row_words;
 use threshold::walk::percentile_of;
-
 ghost use mathlib.Core.Path.{_≡_};
 ghost use Prim.Native.Nat.{_+_, _*_, _≤_};
 ghost use lib.ListN.{length, drop};
@@ -22,7 +22,7 @@ pub fn bitmap_words(w: usize, h: usize) -> usize
 }
 
 // A row is packed into both bitmaps while it is in the cache.
-pub fn pack_within(
+fn pack_within(
     grey: &[u8],
     from: usize,
     w: usize,

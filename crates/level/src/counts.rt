@@ -4,7 +4,6 @@ use crate::bitmaps::bitmap_words;
 use candidates::candidate;
 use count::differences::difference_frame;
 use rules::Offset;
-
 ghost use mathlib.Core.Path.{_≡_};
 ghost use Prim.Native.Nat.{_+_, _*_, _≤_};
 ghost use lib.ListN.{length, drop};
@@ -26,7 +25,17 @@ pub fn count_at(words: &[u64], w: usize, h: usize, dx: i32, dy: i32, ones: &[u8;
     ensures { λ r. ⌜ r ≡ difference w h dx dy (planesOf w h (now (words .entry)) (drop (rowWords w * h) (now (words .entry)))) (planesOf w h (drop (2 * (rowWords w * h)) (now (words .entry))) (drop (3 * (rowWords w * h)) (now (words .entry)))) ⌝ }
 {
     let n = bitmap_words(w, h);
-    difference_frame(w, h, dx, dy, words, &words[n..], &words[2 * n..], &words[3 * n..], ones)
+    difference_frame(
+        w,
+        h,
+        dx,
+        dy,
+        words,
+        &words[n..],
+        &words[2 * n..],
+        &words[3 * n..],
+        ones,
+    )
 }
 
 // The counts at the nine candidates around a centre, written from place `at` on.

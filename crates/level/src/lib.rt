@@ -3,11 +3,12 @@
 pub mod bitmaps;
 pub mod counts;
 
-use bitmaps::{bitmap_words, bitmaps_within};
-use candidates::{candidate, first_least};
+use bitmaps::bitmap_words;
+use bitmaps::bitmaps_within;
+use candidates::candidate;
+use candidates::first_least;
 use counts::nine_counts;
 use rules::Offset;
-
 ghost use Prim.Native.Nat.{_+_, _*_, _≤_};
 ghost use lib.ListN.{length, drop};
 ghost use Rattle.rules.specs.Frames.{frameOf};

@@ -1,3 +1,4 @@
+-- The second frame's bitmaps are written after the first's and leave them, so the counts over the words are the frames'.
 use mathlib.Core.Path.{_≡_, ap, _∙_}
 use Prim.Native.Nat.{ℕ, _*_}
 use lib.ListN.{drop}
@@ -7,58 +8,40 @@ use Rattle.rules.specs.Levels.{byTolerance, countAt}
 use Rattle.level.specs.Places.{wordsCount}
 use Rattle.level.proofs.PlaneLaws.{words-count}
 use Rattle.level.proofs.ChoiceLaws.{settled}
-use native.Mathlib.Omega.{arith}
 use borrow.Author.Needs.{needs}
 use Rattle.level.proofs.settle.Statement.{statement}
 use Rattle.level.proofs.settle.Tie as tie
-use Rattle.level.proofs.settle.Reads as reads
-use Rattle.level.proofs.settle.Lts as lts
-use Rattle.candidates.proofs.candidate.Reads as candidate-reads
-use Rattle.candidates.proofs.first_least.Reads as first-least-reads
-use Rattle.level.proofs.bitmaps.bitmap_words.Reads as bitmap-words-reads
-use Rattle.level.proofs.bitmaps.bitmaps_within.Reads as bitmaps-within-reads
-use Rattle.level.proofs.counts.nine_counts.Reads as nine-counts-reads
 
--- src/lib.rt:46:9
 bitmap-words-requires : tie.Need-bitmap-words-requires
 bitmap-words-requires c κs = search needs
 
--- src/lib.rt:47:5
 bitmaps-within-requires : tie.Need-bitmaps-within-requires
 bitmaps-within-requires c κs = search needs
 
--- src/lib.rt:48:70
 mul-bitmaps-within : tie.Need-mul-bitmaps-within
 mul-bitmaps-within c = search needs
 
--- src/lib.rt:48:5
 bitmaps-within-requires-2 : tie.Need-bitmaps-within-requires-2
 bitmaps-within-requires-2 c κs = search needs
 
--- src/lib.rt:49:5
 nine-counts-requires : tie.Need-nine-counts-requires
 nine-counts-requires c κs =
     let p = c .before .before .before .before .before .before .before .before .before .before .before .before .before .before .pre in
     let len = c .before .before .before .before .bitmaps-within2 .ensures .len ∙ c .before .before .before .before .before .before .before .before .bitmaps-within .ensures .len in
     (p .0, (rw len (p .1 .1 .1 .0), (p .1 .1 .1 .1 .0, (p .1 .1 .1 .1 .1 .0, p .1 .1 .1 .1 .1 .1))))
 
--- src/lib.rt:50:23
 first-least-requires : tie.Need-first-least-requires
 first-least-requires c κs = rw (c .before .before .before .nine-counts .ensures .len) (c .before .before .before .before .before .before .before .before .before .before .before .before .before .before .before .before .before .before .pre .1 .1 .1 .1 .1 .0)
 
--- src/lib.rt:50:5
 candidate-requires : tie.Need-candidate-requires
 candidate-requires c κs = (c .first-least .ensures .inside, c .before .before .before .before .before .before .before .before .before .before .before .before .before .before .before .before .before .before .before .pre .1 .1 .1 .1 .0)
 
--- src/lib.rt:23:1
 same-length : tie.Need-same-length
 same-length c = search needs
 
--- src/lib.rt:23:1
 same-length-2 : tie.Need-same-length-2
 same-length-2 c = search needs
 
--- src/lib.rt:23:1
 returns : tie.Need-returns
 returns c =
     let a = c .before .before .before .before .before .before .before .before .before .before .before .before .before .before .before .before .before .before .before .before .args in

@@ -1,3 +1,4 @@
+-- The product of a row's words and the height fits, by the limits of the sides.
 use mathlib.Core.Path.{ap}
 use Prim.Native.Nat.{ℕ, _*_}
 use Rattle.level.proofs.SideLaws.{sized}
@@ -5,22 +6,16 @@ use native.Mathlib.Omega.{arith}
 use borrow.Author.Needs.{needs}
 use Rattle.level.proofs.bitmaps.bitmap_words.Statement.{statement}
 use Rattle.level.proofs.bitmaps.bitmap_words.Tie as tie
-use Rattle.level.proofs.bitmaps.bitmap_words.Reads as reads
-use Rattle.level.proofs.bitmaps.bitmap_words.Lts as lts
-use Rattle.refusals.proofs.row_words.Reads as row-words-reads
 
--- src/bitmaps.rt:21:5
 row-words-requires : tie.Need-row-words-requires
 row-words-requires c κs = search needs
 
--- src/bitmaps.rt:21:5
 mul-result : tie.Need-mul-result
 mul-result c =
     let a = c .before .args in
     let s = sized (a .w) (a .h) (c .before .pre) in
     rw (c .row-words .ensures) (omega arith)
 
--- src/bitmaps.rt:17:1
 returns : tie.Need-returns
 returns c = ap (λ (n : ℕ). n * c .before .args .h) (c .row-words .ensures)
 

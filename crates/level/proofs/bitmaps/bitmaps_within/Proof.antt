@@ -1,3 +1,4 @@
+-- The threshold of the lent part is the frame's, so the two intervals give the frame's planes.
 use mathlib.Core.Path.{_∙_}
 use Prim.Native.Nat.{_*_, _≤_}
 use native.Mathlib.Nat.{mul-le-mul}
@@ -7,34 +8,22 @@ use native.Mathlib.Omega.{arith}
 use borrow.Author.Needs.{needs}
 use Rattle.level.proofs.bitmaps.bitmaps_within.Statement.{statement}
 use Rattle.level.proofs.bitmaps.bitmaps_within.Tie as tie
-use Rattle.level.proofs.bitmaps.bitmaps_within.Reads as reads
-use Rattle.level.proofs.bitmaps.bitmaps_within.Lts as lts
-use Rattle.level.proofs.bitmaps.pack_within.Reads as pack-within-reads
-use Rattle.pack.proofs.frame.high_end.Reads as high-end-reads
-use Rattle.pack.proofs.frame.low_end.Reads as low-end-reads
-use Rattle.threshold.proofs.walk.percentile_of.Reads as percentile-of-reads
 
--- src/bitmaps.rt:69:22
 mul-end : tie.Need-mul-end
 mul-end c = search needs
 
--- src/bitmaps.rt:69:15
 add-end : tie.Need-add-end
 add-end c = search needs
 
--- src/bitmaps.rt:70:35
 sub-percentile-of : tie.Need-sub-percentile-of
 sub-percentile-of c = search needs
 
--- src/bitmaps.rt:70:35
 part-percentile-of-start : tie.Need-part-percentile-of-start
 part-percentile-of-start c = search needs
 
--- src/bitmaps.rt:70:35
 part-percentile-of-end : tie.Need-part-percentile-of-end
 part-percentile-of-end c = search needs
 
--- src/bitmaps.rt:70:9
 percentile-of-requires : tie.Need-percentile-of-requires
 percentile-of-requires c κs =
     let s = c .before .before .before in
@@ -45,23 +34,18 @@ percentile-of-requires c κs =
     let len = part-length (a .w) (a .h) (a .from) (a .grey .now) (p .1 .1 .0) in
     omega arith
 
--- src/bitmaps.rt:71:9
 low-end-requires : tie.Need-low-end-requires
 low-end-requires c κs = search needs
 
--- src/bitmaps.rt:72:9
 high-end-requires : tie.Need-high-end-requires
 high-end-requires c κs = search needs
 
--- src/bitmaps.rt:73:5
 pack-within-requires : tie.Need-pack-within-requires
 pack-within-requires c κs = search needs
 
--- src/bitmaps.rt:53:1
 same-length : tie.Need-same-length
 same-length c = search needs
 
--- src/bitmaps.rt:53:1
 returns : tie.Need-returns
 returns c =
     let s = c .before .before .before .before .before .before .before .before .before .before in

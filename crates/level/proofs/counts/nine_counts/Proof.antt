@@ -1,3 +1,4 @@
+-- The invariant: the counts at the first k candidates are written, and nothing else has changed.
 use mathlib.Core.Path.{_≡_, _∙_}
 use Prim.Native.Nat.{_≤_, _<_, _-_}
 use Rattle.rules.proofs.FrameLaws.{RowAt, row-none, row-more}
@@ -8,10 +9,6 @@ use native.Mathlib.Omega.{arith}
 use borrow.Author.Needs.{needs}
 use Rattle.level.proofs.counts.nine_counts.Statement.{statement}
 use Rattle.level.proofs.counts.nine_counts.Tie as tie
-use Rattle.level.proofs.counts.nine_counts.Reads as reads
-use Rattle.level.proofs.counts.nine_counts.Lts as lts
-use Rattle.candidates.proofs.candidate.Reads as candidate-reads
-use Rattle.level.proofs.counts.count_at.Reads as count-at-reads
 
 abbrev Inv-loop : tie.InvT-loop
 Inv-loop words w h centre counts₀ at ones k₀ counts k = (k ≤ 9) × RowAt at (nineOf (wordsCount w h words) centre) counts₀ k counts
@@ -19,41 +16,32 @@ Inv-loop words w h centre counts₀ at ones k₀ counts k = (k ≤ 9) × RowAt a
 abbrev μ-loop : tie.MeasureT-loop
 μ-loop words w h centre counts₀ at ones k₀ counts k = 9 - k
 
--- src/counts.rt:50:5
 loop-holds : tie.Need-loop-holds Inv-loop μ-loop
 loop-holds c =
     let a = c .before .before .args in
     (search needs, row-none (a .at) (nineOf (wordsCount (a .w) (a .h) (a .words .now)) (a .centre)) (a .counts .now))
 
--- src/counts.rt:51:13
 candidate-requires : tie.Need-candidate-requires Inv-loop μ-loop
 candidate-requires c κs = search needs
 
--- src/counts.rt:52:26
 count-at-requires : tie.Need-count-at-requires Inv-loop μ-loop
 count-at-requires c κs = search needs
 
--- src/counts.rt:52:16
 add-counts : tie.Need-add-counts Inv-loop μ-loop
 add-counts c = search needs
 
--- src/counts.rt:52:9
 mul-counts : tie.Need-mul-counts Inv-loop μ-loop
 mul-counts c = search needs
 
--- src/counts.rt:52:9
 slice-write-counts : tie.Need-slice-write-counts Inv-loop μ-loop
 slice-write-counts c = search needs
 
--- src/counts.rt:53:9
 add-k : tie.Need-add-k Inv-loop μ-loop
 add-k c = search needs
 
--- src/counts.rt:50:5
 loop-less : tie.Need-loop-less Inv-loop μ-loop
 loop-less c = search needs
 
--- src/counts.rt:50:5
 loop-again : tie.Need-loop-again Inv-loop μ-loop
 unfolding wordsCount
 loop-again c =
@@ -61,16 +49,15 @@ loop-again c =
     let a = s .args in
     let l = c .before .before .before .before .before .loop in
     let m = c .before .before .before .candidate in
-    let less : l .k < 9 = omega arith in
-    (search needs,
-    row-more (a .at) (nineOf (wordsCount (a .w) (a .h) (a .words .now)) (a .centre)) (a .counts .now) (l .k) (l .counts) (c .count-at .result) (omega arith) (l .inv .1)
-    (c .count-at .ensures ∙ candidate-count (a .w) (a .h) (a .words .now) (a .centre) (m .result) (l .k) less (s .pre .1 .1 .0) (m .ensures)))
+    let less : l .k < 9 = omega arith in (
+      search needs,
+      row-more (a .at) (nineOf (wordsCount (a .w) (a .h) (a .words .now)) (a .centre)) (a .counts .now) (l .k) (l .counts) (c .count-at .result) (omega arith) (l .inv .1)
+          (c .count-at .ensures ∙ candidate-count (a .w) (a .h) (a .words .now) (a .centre) (m .result) (l .k) less (s .pre .1 .1 .0) (m .ensures)),
+    )
 
--- src/counts.rt:33:1
 same-length : tie.Need-same-length Inv-loop μ-loop
 same-length c = search needs
 
--- src/counts.rt:33:1
 returns : tie.Need-returns Inv-loop μ-loop
 returns c = let l = c .before .loop in let e : l .k ≡ 9 = omega arith in rw e at (l .inv .1)
 
