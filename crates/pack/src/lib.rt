@@ -5,7 +5,7 @@ use interval::high_end;
 use interval::low_end;
 use rules::Written;
 
-mod frame;
+pub mod frame;
 mod gather;
 pub mod interval;
 mod outside;

@@ -1,0 +1,5 @@
+-- Laws of a level's bitmaps and of its choice.
+pub mod SideLaws
+pub mod PlaneLaws
+pub mod CountLaws
+pub mod ChoiceLaws

@@ -1,0 +1,202 @@
+-- Laws of the bitmaps that stand in lent words.
+use mathlib.Core.Path.{_≡_, refl, sym, ap, ap₂, _∙_}
+use mathlib.Core.Bool.{Bool, true, false, _&&_}
+use mathlib.Core.Logic.{⊎-elim}
+use mathlib.Core.List.{List}
+use Prim.Native.Nat.{ℕ, _+_, _*_, _-_, _/_, _%_, _≤_, _<_, min}
+use native.Mathlib.Nat.{add-assoc, add-mul, mul-comm}
+use native.Mathlib.Omega.{arith}
+use lib.Dec.{ltb, leb}
+use lib.ListN.{length, getD, take, drop, length-take, length-drop}
+use lib.Seq.{getD-take, getD-drop}
+use borrow.Author.Tests.{lt-ltb}
+use Rattle.rules.specs.Limits.{maxGrey}
+use Rattle.rules.specs.Sums.{gate, oneIf}
+use Rattle.rules.specs.Frames.{Frame, frameOf}
+use Rattle.rules.specs.Thresholds.{atMost, reaches, threshold}
+use Rattle.rules.specs.Planes.{thresholdBit, exclusionBit, bitsBy}
+use Rattle.rules.specs.Bitmaps.{rowWords, bit, bitAt, word, wordOf}
+use Rattle.rules.specs.Differences.{Planes}
+use Rattle.rules.specs.Levels.{byTolerance, planesBy, countAt}
+use Rattle.rules.specs.Calls.{planesOf}
+use Rattle.rules.specs.declared.Offset.{Offset}
+use Rattle.rules.proofs.SumLaws.{order, pixels-ext}
+use Rattle.rules.proofs.FrameLaws.{RowAt, row-fits, pixel-fits}
+use Rattle.rules.proofs.ThresholdLaws.{least-ext}
+use Rattle.rules.proofs.DifferenceLaws.{SamePlanes, difference-ext}
+use Rattle.words.proofs.BitLaws.{word-bit}
+use Rattle.threshold.specs.Flat.{thresholdIn}
+use Rattle.threshold.proofs.FlatLaws.{threshold-flat}
+use Rattle.pack.specs.Outside.{outsideBit, outsidePlane, outsideWord}
+use Rattle.pack.proofs.OutsideLaws.{outside-lt, threshold-plane, exclusion-plane}
+use Rattle.level.specs.Places.{planesAt, BothAt, PackedAt, wordsCount}
+
+-- A threshold sees a frame only at its pixels.
+threshold-ext : (w h percentile : ℕ) (f g : Frame) → ((x y : ℕ) → x < w → y < h → f x y ≡ g x y)
+    → threshold w h percentile f ≡ threshold w h percentile g
+unfolding threshold reaches atMost
+threshold-ext w h percentile f g e =
+    least-ext maxGrey (reaches w h percentile f) (reaches w h percentile g)
+    (λ v m. ap (λ (n : ℕ). leb (percentile * (w * h)) (100 * n))
+    (pixels-ext w h (λ x y. oneIf (leb (f x y) v)) (λ x y. oneIf (leb (g x y) v)) (λ x y k l. ap (λ (a : ℕ). oneIf (leb a v)) (e x y k l))))
+
+-- The part of a list that holds a frame, whatever stands after it: its length, and its threshold.
+module _ (w h from : ℕ) (grey : List ℕ) (room : from + w * h ≤ length grey) where
+  pub part-length : length (take (from + w * h - from) (drop from grey)) ≡ w * h
+  part-length = length-take (from + w * h - from) (drop from grey) ∙ (let a = length-drop from grey in omega arith)
+
+  pub part-threshold : (percentile : ℕ) → thresholdIn percentile (take (from + w * h - from) (drop from grey)) ≡ threshold w h percentile (frameOf w (drop from grey))
+  unfolding frameOf
+  part-threshold percentile =
+      let part : List ℕ = take (from + w * h - from) (drop from grey) in
+      threshold-flat w h percentile part part-length
+      ∙ threshold-ext w h percentile (frameOf w part) (frameOf w (drop from grey))
+      (λ x y k l. getD-take (from + w * h - from) (drop from grey) (y * w + x) 0 (let a = pixel-fits w h x y k l in omega arith))
+
+gate-lt : (t : Bool) (n : ℕ) → n < 2 → gate t n < 2
+gate-lt true n l = l
+gate-lt false n l = omega arith
+
+-- the places of earlier rows lie before row y, and those of row y before its end
+row-before : (n y x z : ℕ) → x < n → z < y → z * n + x < y * n
+row-before n y x z k l = let a = pixel-fits n y x z k l in let b = mul-comm n y in omega arith
+
+row-end : (n y x z : ℕ) → x < n → z < y + 1 → z * n + x < y * n + n
+row-end n y x z k l = let a = row-before n (y + 1) x z k l in let b = add-mul y 1 n in omega arith
+
+-- Two frames written row by row into one list, the second after the first.
+pub both-none : (first second n : ℕ) (f g : Frame) (before : List ℕ) → BothAt first second n f g before 0 before
+both-none first second n f g before =
+    record { len = refl; under = λ m l. refl; firsts = λ x z k l. absurd (omega arith); seconds = λ x z k l. absurd (omega arith) }
+
+-- one row more of each
+pub both-more : (first second n : ℕ) (f g : Frame) (before : List ℕ) (y : ℕ) (old mid new : List ℕ) → first + y * n + n ≤ second
+    → BothAt first second n f g before y old
+    → RowAt (first + y * n) (λ x. f x y) old n mid
+    → RowAt (second + y * n) (λ x. g x y) mid n new
+    → BothAt first second n f g before (y + 1) new
+both-more first second n f g before y old mid new apart b r s = record {
+  len = s .len ∙ r .len ∙ b .len;
+  under = λ m l. s .under m (omega arith) ∙ r .under m (omega arith) ∙ b .under m l;
+  firsts = λ x z k l. s .under (first + (z * n + x)) (let a = row-end n y x z k l in omega arith) ∙ ⊎-elim (λ (m : z < y). was1 x z k m) (λ (m : y ≤ z). is1 x z k l m) (order z y);
+  seconds = λ x z k l. ⊎-elim (λ (m : z < y). was2 x z k m) (λ (m : y ≤ z). is2 x z k l m) (order z y);
+}
+  where
+    was1 : (x z : ℕ) → x < n → z < y → getD mid (first + (z * n + x)) 0 ≡ f x z
+    was1 x z k m = r .under (first + (z * n + x)) (let a = row-before n y x z k m in omega arith) ∙ b .firsts x z k m
+
+    is1 : (x z : ℕ) → x < n → z < y + 1 → y ≤ z → getD mid (first + (z * n + x)) 0 ≡ f x z
+    is1 x z k l m =
+        let d : z ≡ y = omega arith in
+        ap (λ (j : ℕ). getD mid (first + (j * n + x)) 0) d ∙ ap (λ (j : ℕ). getD mid j 0) (sym (add-assoc first (y * n) x)) ∙ r .done x k ∙ ap (f x) (sym d)
+
+    was2 : (x z : ℕ) → x < n → z < y → getD new (second + (z * n + x)) 0 ≡ g x z
+    was2 x z k m =
+        s .under (second + (z * n + x)) (let a = row-before n y x z k m in omega arith)
+        ∙ r .over (second + (z * n + x)) (omega arith)
+        ∙ b .seconds x z k m
+
+    is2 : (x z : ℕ) → x < n → z < y + 1 → y ≤ z → getD new (second + (z * n + x)) 0 ≡ g x z
+    is2 x z k l m =
+        let d : z ≡ y = omega arith in
+        ap (λ (j : ℕ). getD new (second + (j * n + x)) 0) d ∙ ap (λ (j : ℕ). getD new j 0) (sym (add-assoc second (y * n) x)) ∙ s .done x k ∙ ap (g x) (sym d)
+
+-- the words of row y of the frame that begins at place `from` of a grey list
+row-of : (lo hi w from y : ℕ) (grey : List ℕ) → outsideWord lo hi grey (from + y * w) w ≡ (λ k. wordOf w (outsidePlane lo hi w (drop from grey)) k y)
+unfolding outsideWord outsidePlane wordOf frameOf
+row-of lo hi w from y grey = λ i k. word (λ j. gate (ltb (k * 64 + j) w) (outsideBit lo hi (same (k * 64 + j) i)))
+  where
+    same : (x : ℕ) → getD grey (from + y * w + x) 0 ≡ getD (drop from grey) (y * w + x) 0
+    same x = ap (λ (j : ℕ). getD grey j 0) (add-assoc from (y * w) x) ∙ sym (getD-drop from grey (y * w + x) 0)
+
+-- one row of a grey frame more in both bitmaps
+pub packed-more : (t lo hi w h from y : ℕ) (grey : List ℕ) (to n : ℕ) (before old mid new : List ℕ) → n ≡ rowWords w → y < h
+    → BothAt to (to + rowWords w * h) (rowWords w) (wordOf w (outsidePlane 0 t w (drop from grey))) (wordOf w (outsidePlane lo hi w (drop from grey))) before y old
+    → RowAt (to + y * n) (outsideWord 0 t grey (from + y * w) w) old (rowWords w) mid
+    → RowAt (to + rowWords w * h + y * n) (outsideWord lo hi grey (from + y * w) w) mid (rowWords w) new
+    → BothAt to (to + rowWords w * h) (rowWords w) (wordOf w (outsidePlane 0 t w (drop from grey))) (wordOf w (outsidePlane lo hi w (drop from grey))) before (y + 1) new
+packed-more t lo hi w h from y grey to n before old mid new e l b r s =
+    both-more to (to + rowWords w * h) (rowWords w) (wordOf w (outsidePlane 0 t w (drop from grey))) (wordOf w (outsidePlane lo hi w (drop from grey))) before y old mid new
+    (let a = row-fits (rowWords w) h y l in omega arith) b (rw (e, row-of) at r) (rw (e, row-of) at s)
+
+-- The bits of a plane are those of its words, wherever these begin.
+bits-packed : (w h to : ℕ) (f : Frame) (words : List ℕ) → ((x y : ℕ) → f x y < 2)
+    → ((k z : ℕ) → k < rowWords w → z < h → getD words (to + (z * rowWords w + k)) 0 ≡ wordOf w f k z)
+    → (x y : ℕ) → x < w → y < h → bitAt w h (drop to words) x y ≡ f x y
+unfolding bitAt rowWords wordOf
+bits-packed w h to f words small done x y k l =
+    let e : x / 64 * 64 + x % 64 ≡ x = omega arith in
+    ap₂ (λ (s t : Bool). gate (s && t) (bit (getD (drop to words) (y * rowWords w + x / 64) 0) (x % 64))) (lt-ltb x w k) (lt-ltb y h l)
+    ∙ ap (λ (v : ℕ). bit v (x % 64)) (getD-drop to words (y * rowWords w + x / 64) 0 ∙ done (x / 64) y (omega arith) l)
+    ∙ word-bit (λ i. gate (ltb (x / 64 * 64 + i) w) (f (x / 64 * 64 + i) y)) (λ i m. gate-lt (ltb (x / 64 * 64 + i) w) (f (x / 64 * 64 + i) y) (small (x / 64 * 64 + i) y)) (x % 64) (omega arith)
+    ∙ ap (λ (j : ℕ). gate (ltb j w) (f j y)) e
+    ∙ ap (λ (t : Bool). gate t (f x y)) (lt-ltb x w k)
+
+outside-small : (lo hi w : ℕ) (grey : List ℕ) (x y : ℕ) → outsidePlane lo hi w grey x y < 2
+unfolding outsidePlane
+outside-small lo hi w grey x y = outside-lt lo hi (frameOf w grey x y)
+
+-- The bitmaps by the tests of single pixels are the frame's planes.
+pub packed-at : (w h percentile tolerance from : ℕ) (grey : List ℕ) (to : ℕ) (before after : List ℕ) (t lo hi : ℕ)
+    → ((i : ℕ) → getD grey i 0 < 256)
+    → t ≡ threshold w h percentile (frameOf w (drop from grey))
+    → lo ≡ t - tolerance
+    → hi ≡ min 255 (t + tolerance)
+    → BothAt to (to + rowWords w * h) (rowWords w) (wordOf w (outsidePlane 0 t w (drop from grey))) (wordOf w (outsidePlane lo hi w (drop from grey))) before h after
+    → PackedAt w h percentile tolerance (drop from grey) to before after
+unfolding planesBy
+packed-at w h percentile tolerance from grey to before after t lo hi bytes t-is lo-is hi-is b = record {
+  len = b .len;
+  under = b .under;
+  planes = record {
+    thresholds = λ x y k l. bits-packed w h to (outsidePlane 0 t w l₀) after (outside-small 0 t w l₀) (b .firsts) x y k l ∙ (λ i. thresholds i x y);
+    exclusions = λ x y k l. bits-packed w h (to + rowWords w * h) (outsidePlane lo hi w l₀) after (outside-small lo hi w l₀) (b .seconds) x y k l ∙ (λ i. exclusions i x y);
+  };
+}
+  where
+    l₀ : List ℕ
+    l₀ = drop from grey
+
+    thresholds : outsidePlane 0 t w l₀ ≡ bitsBy (thresholdBit (threshold w h percentile (frameOf w l₀))) (frameOf w l₀)
+    thresholds = sym (threshold-plane t w l₀) ∙ ap (λ (v : ℕ). bitsBy (thresholdBit v) (frameOf w l₀)) t-is
+
+    exclusions : outsidePlane lo hi w l₀ ≡ bitsBy (exclusionBit (threshold w h percentile (frameOf w l₀)) tolerance) (frameOf w l₀)
+    exclusions =
+        ap₂ (λ (a b : ℕ). outsidePlane a b w l₀) lo-is hi-is
+        ∙ sym (exclusion-plane t tolerance w l₀ (λ i. rw (getD-drop from grey i 0) (bytes (from + i))))
+        ∙ ap (λ (v : ℕ). bitsBy (exclusionBit v tolerance) (frameOf w l₀)) t-is
+
+-- A bitmap is read only at its own words.
+bits-kept : (w h to : ℕ) (before after : List ℕ) → ((m : ℕ) → m < to + rowWords w * h → getD after m 0 ≡ getD before m 0)
+    → (x y : ℕ) → x < w → y < h → bitAt w h (drop to after) x y ≡ bitAt w h (drop to before) x y
+unfolding bitAt rowWords
+bits-kept w h to before after same x y k l =
+    let j : ℕ = y * rowWords w + x / 64 in
+    let inside : j < rowWords w * h = pixel-fits (rowWords w) h (x / 64) y (omega arith) l in
+    ap (λ (v : ℕ). gate (ltb x w && ltb y h) (bit v (x % 64)))
+    (getD-drop to after j 0 ∙ same (to + j) (omega arith) ∙ sym (getD-drop to before j 0))
+
+-- Bitmaps stay a frame's while only places after them are written.
+pub planes-kept : (w h to : ℕ) (before after : List ℕ) (p : Planes)
+    → ((m : ℕ) → m < to + 2 * (rowWords w * h) → getD after m 0 ≡ getD before m 0)
+    → SamePlanes w h (planesAt w h to before) p → SamePlanes w h (planesAt w h to after) p
+planes-kept w h to before after p same q = record {
+  thresholds = λ x y k l. bits-kept w h to before after (λ m i. same m (omega arith)) x y k l ∙ q .thresholds x y k l;
+  exclusions = λ x y k l. bits-kept w h (to + rowWords w * h) before after (λ m i. same m (omega arith)) x y k l ∙ q .exclusions x y k l;
+}
+
+-- The count over the words of two frames' bitmaps is the count of the frames.
+pub words-count : (w h percentile tolerance : ℕ) (a b : List ℕ) (none mid words : List ℕ) (place : ℕ) → place ≡ 2 * (rowWords w * h)
+    → PackedAt w h percentile tolerance a 0 none mid → PackedAt w h percentile tolerance b place mid words
+    → (m : Offset) → wordsCount w h words m ≡ countAt (byTolerance tolerance) percentile w h (frameOf w a) (frameOf w b) m
+unfolding wordsCount countAt
+words-count w h percentile tolerance a b none mid words place e p q m =
+    let n : ℕ = rowWords w * h in
+    let one : 0 + n ≡ n = omega arith in
+    let three : place + n ≡ 3 * n = omega arith in
+    let first : SamePlanes w h (planesOf w h words (drop n words)) (planesBy (byTolerance tolerance) percentile w h (frameOf w a)) =
+    rw one at (planes-kept w h 0 mid words (planesBy (byTolerance tolerance) percentile w h (frameOf w a)) (λ i l. q .under i (omega arith)) (p .planes)) in
+    let second : SamePlanes w h (planesOf w h (drop (2 * n) words) (drop (3 * n) words)) (planesBy (byTolerance tolerance) percentile w h (frameOf w b)) =
+    rw (three, e) at (q .planes) in
+    difference-ext w h (m .dx) (m .dy) (planesOf w h words (drop n words)) (planesBy (byTolerance tolerance) percentile w h (frameOf w a))
+    (planesOf w h (drop (2 * n) words) (drop (3 * n) words)) (planesBy (byTolerance tolerance) percentile w h (frameOf w b)) first second

@@ -1,0 +1,17 @@
+-- The nine counts of a level, and the candidate that they choose.
+use mathlib.Core.Path.{_≡_}
+use mathlib.Core.List.{List, map}
+use Prim.Native.Nat.{ℕ}
+use Rattle.rules.specs.declared.Offset.{Offset}
+use Rattle.rules.specs.Levels.{wardOrder, added, chosen}
+use Rattle.rules.proofs.FrameLaws.{RowAt}
+use Rattle.rules.proofs.LevelLaws.{candidateAt}
+
+-- the count at candidate k around a centre
+abbrev pub nineOf : (Offset → ℕ) → Offset → ℕ → ℕ
+nineOf count centre k = count (candidateAt centre k)
+
+-- a level's answer: the nine counts stand from place `at` on, and the offset is the first with the least
+pub record Settled (count : Offset → ℕ) (centre : Offset) (at : ℕ) (before after : List ℕ) (r : Offset) : Type 0 where
+  pub offset : r ≡ chosen count (map (added centre) wardOrder)
+  pub counts : RowAt at (nineOf count centre) before 9 after
