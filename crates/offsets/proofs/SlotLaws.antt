@@ -254,23 +254,23 @@ down-again before after r j k t room c e a s =
 abbrev pub cleared : List ℤ → ℕ → List ℤ
 cleared l r = set (set l (2 * r) (pos 0)) (2 * r + 1) (pos 0)
 
-zero-small : (l : List ℤ) (i m : ℕ) → i < length l → natAbs (getD l m (pos 0)) ≤ 511 → natAbs (getD (set l i (pos 0)) m (pos 0)) ≤ 511
+zero-small : (l : List ℤ) (i m : ℕ) → i < length l → ((m ≡ i → ⊥) → natAbs (getD l m (pos 0)) ≤ 511) → natAbs (getD (set l i (pos 0)) m (pos 0)) ≤ 511
 zero-small l i m room s =
     ⊎-elim
-    (λ (k : m < i). rw (getD-set-other l i m (pos 0) (pos 0) (λ e. omega arith)) s)
+    (λ (k : m < i). rw (getD-set-other l i m (pos 0) (pos 0) (λ e. omega arith)) (s (λ e. omega arith)))
     (λ (k : i ≤ m). ⊎-elim
-    (λ (j : i < m). rw (getD-set-other l i m (pos 0) (pos 0) (λ e. omega arith)) s)
+    (λ (j : i < m). rw (getD-set-other l i m (pos 0) (pos 0) (λ e. omega arith)) (s (λ e. omega arith)))
     (λ (j : m ≤ i). let e : m ≡ i = omega arith in rw (e, getD-set-same l i (pos 0) (pos 0) room) (omega arith))
     (order i m))
     (order m i)
 
 module _ (before : List ℤ) (n r : ℕ) (inside : r < n) (room : 2 * n ≤ length before) where
-  pub up-ready : ((m : ℕ) → m < 2 * n → natAbs (getD before m (pos 0)) ≤ 511) → Cleared (cleared before r) n r
+  pub up-ready : ((m : ℕ) → m < 2 * n → (m ≡ 2 * r → ⊥) → (m ≡ 2 * r + 1 → ⊥) → natAbs (getD before m (pos 0)) ≤ 511) → Cleared (cleared before r) n r
   up-ready small = record {
     reference = put before (2 * r) still (omega arith) .done;
     small = λ m l.
         zero-small (set before (2 * r) (pos 0)) (2 * r + 1) m (let a = length-set before (2 * r) (pos 0) in omega arith)
-        (zero-small before (2 * r) m (omega arith) (small m l));
+        (λ a. zero-small before (2 * r) m (omega arith) (λ b. small m l b a));
   }
 
   module _ (middle : List ℤ) (up : SummedFrom (cleared before r) middle r r n) where

@@ -41,7 +41,7 @@ fn sum_down(offsets: &mut [i32], r: usize)
 // The pair of frames j and j + 1 stands in slot j below the reference r, in slot j + 1 above it; slot r is free.
 pub fn sum_about(offsets: &mut [i32], n: usize, r: usize)
     requires { ⌜ (r < n) × (n ≤ 16) × (2 * n ≤ length (now offsets)) ⌝ }
-    requires { ⌜ ((k : ℕ) → k < 2 * n → natAbs (getD (now offsets) k (pos 0)) ≤ 511) ⌝ }
+    requires { ⌜ ((k : ℕ) → k < 2 * n → (k ≡ 2 * r → ⊥) → (k ≡ 2 * r + 1 → ⊥) → natAbs (getD (now offsets) k (pos 0)) ≤ 511) ⌝ }
     ensures { λ _. ⌜ Summed (now (offsets .entry)) (now (offsets .exit)) n r ⌝ }
 {
     let at = 2 * r;
