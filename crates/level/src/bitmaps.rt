@@ -1,7 +1,7 @@
 // Both bitmaps of a grey frame that stands in lent memory, into lent words.
 
-use pack::frame::high_end;
-use pack::frame::low_end;
+use pack::interval::high_end;
+use pack::interval::low_end;
 use pack::rows::pack_row;
 use refusals::row_words;
 use threshold::walk::percentile_of;
