@@ -1,0 +1,2 @@
+-- What the recursive alignment requires and gives.
+pub mod Aligns
