@@ -181,6 +181,7 @@ module _ (first second w h : ℕ) (g0 g1 g2 : List ℕ)
 
       frame-kept : (from : ℕ) → from + w * h ≤ 2 * (w * h) → SameFrame w h (frameOf w (drop from g3)) (frameOf w (drop from g0))
       frame-kept from room = frame-same w h from g3 g0 room kept
+
       counts-same : count3 ≡ count
       counts-same = count-ext (byTolerance tolerance) percentile w h (frameOf w (drop first g3)) A (frameOf w (drop second g3)) B (frame-kept first one) (frame-kept second two)
 
@@ -224,7 +225,7 @@ pub coarse-near : (t percentile tolerance w h : ℕ) (a b : Frame) (m : Offset) 
 coarse-near t percentile tolerance w h a b m l e =
     let p : 2 ^ suc t ≤ 2 ^ 9 = pow-mono {i = suc t} {j = 9} (omega arith) in
     rw e (near-more (2 ^ suc t - 1) 1000 (pair wardOrder (byTolerance tolerance) percentile t w h a b .offset) (omega arith)
-      (near-pair wardOrder near-ward (byTolerance tolerance) percentile t w h a b))
+    (near-pair wardOrder near-ward (byTolerance tolerance) percentile t w h a b))
 
 pub centre-near : (m c : Offset) → Near 1000 m → c ≡ added m m → Near 1000000 c
 centre-near m c n e = rw e (near-more 2000 1000000 (added m m) (omega arith) (near-add 1000 1000 m m n n))
@@ -233,10 +234,11 @@ centre-near m c n e = rw e (near-more 2000 1000000 (added m m) (omega arith) (ne
 module _ (first second w h s memory : ℕ) (f : Frames first second w h s memory) where
   pub frames-sides : Sides w h
   frames-sides = record {
-      wide = let p = pow-pos (s + 2) in let l = f .wide in omega arith;
-      width = f .width;
-      high = let p = pow-pos (s + 2) in let l = f .high in omega arith;
-      height = f .height }
+    wide = let p = pow-pos (s + 2) in let l = f .wide in omega arith;
+    width = f .width;
+    high = let p = pow-pos (s + 2) in let l = f .high in omega arith;
+    height = f .height;
+  }
 
   pub frames-area : w * h ≤ 16777216
   frames-area = mul-le-mul (f .width) (f .height)
@@ -283,4 +285,5 @@ module _ (first second w h s memory : ℕ) (f : Frames first second w h s memory
           halvings = let z = f .halvings in omega arith;
           one = omega arith;
           two = omega arith;
-          room = let z = f .room in omega arith }
+          room = let z = f .room in omega arith;
+        }

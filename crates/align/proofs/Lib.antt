@@ -1,2 +1,3 @@
--- Laws of the recursion: what the coarser level leaves in the lent memory and in the counts.
+-- Laws of the recursion, and of the offered call over it.
 pub mod AlignLaws
+pub mod PairCallLaws

@@ -42,7 +42,7 @@ align-frames-settle-requires : (t : ℕ) → align-frames-lts.Need-settle-requir
   doubled-reads.Asked,
   doubled-reads.Learnt,
 ) (align-frames-at t) align-frames.Post
-align-frames-settle-requires t c κs = 
+align-frames-settle-requires t c κs =
     let b = c .before .before .before .before .before .before .before in
     let a = b .args in
     (frames-sides (a .first) (a .second) (a .w) (a .h) (a .s) (length (a .grey .now)) (b .pre .1 .0), (b .pre .1 .1 .0, ((let r = frames-room (a .first) (a .second) (a .w) (a .h) (a .s) (length (a .grey .now)) (b .pre .1 .0) in let f = b .pre .1 .0 in (omega arith, omega arith)), (b .pre .1 .1 .1 .0, (record { dx = omega arith; dy = omega arith }, (let l = b .pre .1 .1 .1 .1 .0 in omega arith, b .pre .1 .1 .1 .1 .1))))))
@@ -93,7 +93,7 @@ align-frames-returns : (t : ℕ) → align-frames-lts.Need-returns (
   doubled-reads.Asked,
   doubled-reads.Learnt,
 ) (align-frames-at t) align-frames.Post
-align-frames-returns t c = 
+align-frames-returns t c =
     let b = c .before .before .before .before .before .before .before .before .before .before .before .before in
     let a = b .args in
     aligned-one (a .first) (a .second) (a .w) (a .h) (a .s) (a .percentile) (a .tolerance) (a .at) (a .grey .now) (a .counts .now) (c .before .before .before .before .settle .last .1 .1 .1 .1 .1 .1 .1 .1 .1 .0) (c .before .before .before .before .settle .result) (c .before .before .before .before .before .before .before .before .if1 .taken) (c .before .before .before .before .settle .ensures)
@@ -108,7 +108,7 @@ align-frames-mul-rest : (t : ℕ) → align-frames-lts.Need-mul-rest (
   doubled-reads.Asked,
   doubled-reads.Learnt,
 ) (align-frames-at t) align-frames.Post
-align-frames-mul-rest t c = 
+align-frames-mul-rest t c =
     let b = c .before .before .before .before in
     let a = b .args in
     let k = frames-area (a .first) (a .second) (a .w) (a .h) (a .s) (length (a .grey .now)) (b .pre .1 .0) in omega arith
@@ -123,7 +123,7 @@ align-frames-mul-rest-2 : (t : ℕ) → align-frames-lts.Need-mul-rest-2 (
   doubled-reads.Asked,
   doubled-reads.Learnt,
 ) (align-frames-at t) align-frames.Post
-align-frames-mul-rest-2 t c = 
+align-frames-mul-rest-2 t c =
     let b = c .before .before .before .before in
     let a = b .args in
     let k = frames-area (a .first) (a .second) (a .w) (a .h) (a .s) (length (a .grey .now)) (b .pre .1 .0) in omega arith
@@ -138,7 +138,7 @@ align-frames-mul-quarter : (t : ℕ) → align-frames-lts.Need-mul-quarter (
   doubled-reads.Asked,
   doubled-reads.Learnt,
 ) (align-frames-at t) align-frames.Post
-align-frames-mul-quarter t c = 
+align-frames-mul-quarter t c =
     let b = c .before .before .before .before in
     let a = b .args in
     let k = frames-quarter (a .first) (a .second) (a .w) (a .h) (a .s) (length (a .grey .now)) (b .pre .1 .0) in omega arith
@@ -153,7 +153,7 @@ align-frames-halve-within-requires : (t : ℕ) → align-frames-lts.Need-halve-w
   doubled-reads.Asked,
   doubled-reads.Learnt,
 ) (align-frames-at t) align-frames.Post
-align-frames-halve-within-requires t c κs = 
+align-frames-halve-within-requires t c κs =
     let b = c .before .before .before .before .before in
     let a = b .args in
     let some : 0 < a .s = omega arith in let k = frames-rest (a .first) (a .second) (a .w) (a .h) (a .s) (length (a .grey .now)) (b .pre .1 .0) some in let f = b .pre .1 .0 in (f .one, omega arith)
@@ -168,7 +168,7 @@ align-frames-add-halve-within : (t : ℕ) → align-frames-lts.Need-add-halve-wi
   doubled-reads.Asked,
   doubled-reads.Learnt,
 ) (align-frames-at t) align-frames.Post
-align-frames-add-halve-within t c = 
+align-frames-add-halve-within t c =
     let b = c .before .before .before .before .before .before .before .before .before in
     let a = b .args in
     let k = frames-area (a .first) (a .second) (a .w) (a .h) (a .s) (length (a .grey .now)) (b .pre .1 .0) in let q = frames-quarter (a .first) (a .second) (a .w) (a .h) (a .s) (length (a .grey .now)) (b .pre .1 .0) in omega arith
@@ -183,7 +183,7 @@ align-frames-halve-within-requires-2 : (t : ℕ) → align-frames-lts.Need-halve
   doubled-reads.Asked,
   doubled-reads.Learnt,
 ) (align-frames-at t) align-frames.Post
-align-frames-halve-within-requires-2 t c κs = 
+align-frames-halve-within-requires-2 t c κs =
     let b = c .before .before .before .before .before .before .before .before .before in
     let a = b .args in
     let some : 0 < a .s = omega arith in let k = frames-rest (a .first) (a .second) (a .w) (a .h) (a .s) (length (a .grey .now)) (b .pre .1 .0) some in let f = b .pre .1 .0 in let e = c .before .before .before .halve-within .ensures .len in (let g = f .two in omega arith, omega arith)
@@ -198,7 +198,7 @@ align-frames-sub-align-frames : (t : ℕ) → align-frames-lts.Need-sub-align-fr
   doubled-reads.Asked,
   doubled-reads.Learnt,
 ) (align-frames-at t) align-frames.Post
-align-frames-sub-align-frames t c = 
+align-frames-sub-align-frames t c =
     let b = c .before .before .before .before .before .before .before .before .before .before .before .before in
     let a = b .args in
     let k = frames-room (a .first) (a .second) (a .w) (a .h) (a .s) (length (a .grey .now)) (b .pre .1 .0) in let e = c .before .before .before .before .before .before .halve-within .ensures .len in let d = c .before .before .halve-within2 .ensures .len in omega arith
@@ -213,7 +213,7 @@ align-frames-part-align-frames-start : (t : ℕ) → align-frames-lts.Need-part-
   doubled-reads.Asked,
   doubled-reads.Learnt,
 ) (align-frames-at t) align-frames.Post
-align-frames-part-align-frames-start t c = 
+align-frames-part-align-frames-start t c =
     let b = c .before .before .before .before .before .before .before .before .before .before .before .before in
     let a = b .args in
     let k = frames-room (a .first) (a .second) (a .w) (a .h) (a .s) (length (a .grey .now)) (b .pre .1 .0) in let e = c .before .before .before .before .before .before .halve-within .ensures .len in let d = c .before .before .halve-within2 .ensures .len in omega arith
@@ -252,7 +252,7 @@ align-frames-align-frames-requires : (t : ℕ) → align-frames-lts.Need-align-f
   doubled-reads.Asked,
   doubled-reads.Learnt,
 ) (align-frames-at t) align-frames.Post
-align-frames-align-frames-requires t c κs = 
+align-frames-align-frames-requires t c κs =
     let b = c .before .before .before .before .before .before .before .before .before .before .before .before .before .before .before in
     let a = b .args in
     let some : 0 < a .s = omega arith in
@@ -271,7 +271,7 @@ align-frames-doubled-requires : (t : ℕ) → align-frames-lts.Need-doubled-requ
   doubled-reads.Asked,
   doubled-reads.Learnt,
 ) (align-frames-at t) align-frames.Post
-align-frames-doubled-requires t c κs = 
+align-frames-doubled-requires t c κs =
     let b = c .before .before .before .before .before .before .before .before .before .before .before .before .before .before .before .before .before .before .before .before .before .before in
     let a = b .args in
     let f = b .pre .1 .0 in
@@ -288,7 +288,7 @@ align-frames-mul-settle : (t : ℕ) → align-frames-lts.Need-mul-settle (
   doubled-reads.Asked,
   doubled-reads.Learnt,
 ) (align-frames-at t) align-frames.Post
-align-frames-mul-settle t c = 
+align-frames-mul-settle t c =
     let b = c .before .before .before .before .before .before .before .before .before .before .before .before .before .before .before .before .before .before .before .before .before .before .before .before .before .before in
     let a = b .args in
     let f = b .pre .1 .0 in let l = f .halvings in omega arith
@@ -303,7 +303,7 @@ align-frames-add-settle : (t : ℕ) → align-frames-lts.Need-add-settle (
   doubled-reads.Asked,
   doubled-reads.Learnt,
 ) (align-frames-at t) align-frames.Post
-align-frames-add-settle t c = 
+align-frames-add-settle t c =
     let b = c .before .before .before .before .before .before .before .before .before .before .before .before .before .before .before .before .before .before .before .before .before .before .before .before .before .before in
     let a = b .args in
     let f = b .pre .1 .0 in let l = f .halvings in let m = b .pre .1 .1 .1 .1 .0 in let g = b .good in omega arith
@@ -318,7 +318,7 @@ align-frames-settle-requires-2 : (t : ℕ) → align-frames-lts.Need-settle-requ
   doubled-reads.Asked,
   doubled-reads.Learnt,
 ) (align-frames-at t) align-frames.Post
-align-frames-settle-requires-2 t c κs = 
+align-frames-settle-requires-2 t c κs =
     let b = c .before .before .before .before .before .before .before .before .before .before .before .before .before .before .before .before .before .before .before .before .before .before .before .before .before .before in
     let a = b .args in
     let f = b .pre .1 .0 in
@@ -341,7 +341,7 @@ align-frames-same-length-4 : (t : ℕ) → align-frames-lts.Need-same-length-4 (
   doubled-reads.Asked,
   doubled-reads.Learnt,
 ) (align-frames-at t) align-frames.Post
-align-frames-same-length-4 t c = 
+align-frames-same-length-4 t c =
     let g2 = c .before .before .before .before .before .before .before .before .before .before .before .before .before .before .before .before .before .before .before .before .before .halve-within2 .last .0 in
     let a = c .before .before .before .before .before .before .before .before .before .before .before .before .before .before .before .before .before .before .before .before .before .before .before .before .before .before .before .before .before .before .before .args in
     same-len-mid (2 * (a .w * a .h)) (length g2 - 2 * (a .w * a .h)) g2 (c .before .before .before .before .before .before .before .before .before .before .before .before .before .before .before .align-frames .last .0) (c .before .before .before .before .before .before .before .before .before .before .before .before .before .before .before .align-frames .kept .0)
@@ -381,7 +381,7 @@ align-frames-returns-2 : (t : ℕ) → align-frames-lts.Need-returns-2 (
   doubled-reads.Asked,
   doubled-reads.Learnt,
 ) (align-frames-at t) align-frames.Post
-align-frames-returns-2 t c = 
+align-frames-returns-2 t c =
     let b = c .before .before .before .before .before .before .before .before .before .before .before .before .before .before .before .before .before .before .before .before .before .before .before .before .before .before .before .before .before .before .before in
     let a = b .args in
     let f = b .pre .1 .0 in
@@ -396,8 +396,8 @@ align-frames-returns-2 t c =
     let place : a .at + 9 * a .s ≡ a .at + 9 * (a .s - 1 + 1) = let l = c .before .before .before .before .before .before .before .before .before .before .before .before .before .before .before .before .before .before .before .before .before .before .before .before .before .before .before .if1 .left in omega arith in
     rw more at
     (aligned-more (a .first) (a .second) (a .w) (a .h) (a .grey .now) (h1 .last .0) (h2 .last .0) (f .one) (f .two) (h1 .ensures) (h2 .ensures)
-      (a .s - 1) (a .percentile) (a .tolerance) (a .at) (u .last .0) (a .counts .now) (u .last .1 .1 .1 .1 .1 .1 .1 .1 .1 .0) (z .last .1 .1 .1 .1 .1 .1 .1 .1 .1 .0) (a .at + 9 * a .s) (u .result) (c .before .before .before .before .before .before .before .before .doubled .result) (z .result)
-      (omega arith) (u .ensures) (c .before .before .before .before .before .before .before .before .doubled .ensures) place (z .ensures))
+    (a .s - 1) (a .percentile) (a .tolerance) (a .at) (u .last .0) (a .counts .now) (u .last .1 .1 .1 .1 .1 .1 .1 .1 .1 .0) (z .last .1 .1 .1 .1 .1 .1 .1 .1 .1 .0) (a .at + 9 * a .s) (u .result) (c .before .before .before .before .before .before .before .before .doubled .result) (z .result)
+    (omega arith) (u .ensures) (c .before .before .before .before .before .before .before .before .doubled .ensures) place (z .ensures))
 
 pub +align-frames-spec : {M : Type 1} → statement M
 +align-frames-spec = close μ-align-frames λ t. align-frames-lts.spec (

@@ -1,0 +1,90 @@
+-- The offered call: what the two conversions put into the lent memory, and the answer as its definition says it.
+use mathlib.Core.Path.{_≡_, refl, sym, ap, _∙_}
+use mathlib.Core.Logic.{⊎-elim}
+use mathlib.Core.List.{List, _++_}
+use Prim.Native.Nat.{ℕ, _+_, _*_, _-_, _≤_, _<_}
+use native.Mathlib.Omega.{arith}
+use lib.ListN.{length, getD, drop, length-append, length-drop, List·getD-append}
+use lib.Seq.{getD-append-add, getD-drop, ext-getD}
+use Rattle.rules.specs.declared.Offset.{Offset}
+use Rattle.rules.specs.Frames.{frameOf, writtenOver}
+use Rattle.rules.specs.Greys.{greyFrame}
+use Rattle.rules.specs.Levels.{wardOrder, byTolerance, Aligned, pair}
+use Rattle.rules.specs.Calls.{pairResult}
+use Rattle.rules.proofs.SumLaws.{order}
+use Rattle.rules.proofs.FrameLaws.{RowAt, pixel-fits}
+use Rattle.rules.proofs.PairLaws.{SameFrame, pair-ext}
+use Rattle.rules.proofs.AlignmentLaws.{PairOk}
+use Rattle.frame.specs.Places.{greyAt}
+use Rattle.align.specs.Aligns.{Frames, Aligns, alignedIn, countOf}
+use Rattle.align.proofs.AlignLaws.{counts-length}
+
+-- a raster converted from place `to` on stands there as its grey frame
+pub converted : (w h to : ℕ) (raster before after : List ℕ) → RowAt to (greyAt raster) before (w * h) after
+    → SameFrame w h (frameOf w (drop to after)) (greyFrame w raster)
+unfolding frameOf greyFrame greyAt
+converted w h to raster before after r x y k l = getD-drop to after (y * w + x) 0 ∙ r .done (y * w + x) (pixel-fits w h x y k l)
+
+-- a later conversion leaves the frame before it
+pub converted-kept : (w h to : ℕ) (f : ℕ → ℕ) (raster before mid after : List ℕ) → RowAt 0 (greyAt raster) before (w * h) mid
+    → w * h ≤ to → RowAt to f mid (w * h) after → SameFrame w h (frameOf w (drop 0 after)) (greyFrame w raster)
+unfolding frameOf greyFrame greyAt
+converted-kept w h to f raster before mid after r room later x y k l =
+    later .under (y * w + x) (let p = pixel-fits w h x y k l in omega arith)
+    ∙ converted w h 0 raster before mid r x y k l
+
+-- a list written whole at the beginning of a lent one
+pub row-written : (l before after : List ℕ) (n : ℕ) → length l ≡ n → n ≤ length before → RowAt 0 (λ i. getD l i 0) before n after
+    → after ≡ writtenOver l before
+row-written l before after n size room r =
+    ext-getD 0 after (writtenOver l before) lengths (λ i m. ⊎-elim (inside i) (outside i) (order i n))
+  where
+    lengths : length after ≡ length (writtenOver l before)
+    lengths = r .len ∙ sym (length-append l (drop (length l) before) ∙ (let a = length-drop (length l) before in let b = size in omega arith))
+
+    inside : (i : ℕ) → i < n → getD after i 0 ≡ getD (writtenOver l before) i 0
+    inside i m =
+        ap (λ (j : ℕ). getD after j 0) (let e : i ≡ 0 + i = omega arith in e)
+        ∙ r .done i m
+        ∙ sym (List·getD-append l (drop (length l) before) 0 i (let b = size in omega arith))
+
+    outside : (i : ℕ) → n ≤ i → getD after i 0 ≡ getD (writtenOver l before) i 0
+    outside i m =
+        let e : length l + (i - length l) ≡ i = let b = size in omega arith in
+        r .over i (omega arith)
+        ∙ ap (λ (j : ℕ). getD before j 0) (sym e)
+        ∙ sym (getD-drop (length l) before (i - length l) 0)
+        ∙ sym (getD-append-add l (drop (length l) before) (i - length l) 0)
+        ∙ ap (λ (j : ℕ). getD (writtenOver l before) j 0) e
+
+-- the recursion's answer is the call's
+module _ (w h s percentile tolerance : ℕ) (first second grey grey′ counts counts′ : List ℕ) (r : Offset)
+    (a : SameFrame w h (frameOf w (drop 0 grey)) (greyFrame w first)) (b : SameFrame w h (frameOf w (drop (w * h) grey)) (greyFrame w second))
+    (aligns : Aligns 0 (w * h) w h s percentile tolerance 0 grey grey′ counts counts′ r) where
+  same : alignedIn 0 (w * h) w h s percentile tolerance grey ≡ pairResult w h s tolerance percentile first second
+  unfolding pairResult
+  same =
+      pair-ext wardOrder (byTolerance tolerance) percentile s w h (frameOf w (drop 0 grey)) (greyFrame w first) (frameOf w (drop (w * h) grey)) (greyFrame w second) a b
+
+  pub pair-offset : r ≡ pairResult w h s tolerance percentile first second .offset
+  pair-offset = aligns .offset ∙ ap (λ (x : Aligned). x .offset) same
+
+  pub pair-counts : 9 * (s + 1) ≤ length counts → counts′ ≡ writtenOver (pairResult w h s tolerance percentile first second .counts) counts
+  pair-counts room =
+      row-written (alignedIn 0 (w * h) w h s percentile tolerance grey .counts) counts counts′ (9 * (s + 1))
+      (counts-length percentile tolerance s w h (frameOf w (drop 0 grey)) (frameOf w (drop (w * h) grey))) room (aligns .written)
+      ∙ ap (λ (x : Aligned). writtenOver (x .counts) counts) same
+
+-- an accepted call gives the recursion what it needs
+pub pair-frames : (w h s tolerance percentile first second counts grey words : ℕ) → PairOk w h s tolerance percentile first second counts grey words
+    → Frames 0 (w * h) w h s grey
+pair-frames w h s tolerance percentile first second counts grey words k = record {
+  wide = k .shape .wide;
+  width = k .shape .size .width;
+  high = k .shape .high;
+  height = k .shape .size .height;
+  halvings = k .shape .halvings;
+  one = omega arith;
+  two = omega arith;
+  room = k .greys;
+}
