@@ -8,51 +8,53 @@ use rules::Written;
 
 const SIDE: usize = 4;
 
+const FIRST: [u8; 16] = [
+    10,
+    10,
+    90,
+    90,
+    10,
+    10,
+    90,
+    90,
+    10,
+    10,
+    90,
+    90,
+    10,
+    20,
+    90,
+    90,
+];
+
+const SECOND: [u8; 16] = [
+    90,
+    10,
+    10,
+    90,
+    90,
+    10,
+    10,
+    90,
+    90,
+    10,
+    10,
+    90,
+    90,
+    10,
+    20,
+    90,
+];
+
 fn main() {
-    let first = [
-        10u8,
-        10,
-        90,
-        90,
-        10,
-        10,
-        90,
-        90,
-        10,
-        10,
-        90,
-        90,
-        10,
-        20,
-        90,
-        90,
-    ];
-    let second = [
-        90u8,
-        10,
-        10,
-        90,
-        90,
-        10,
-        10,
-        90,
-        90,
-        10,
-        10,
-        90,
-        90,
-        10,
-        20,
-        90,
-    ];
     let mut threshold1 = [0u64; 4];
     let mut exclusion1 = [0u64; 4];
     let mut threshold2 = [0u64; 4];
     let mut exclusion2 = [0u64; 4];
     say(b"first frame\n");
-    bitmaps_of(&first, &mut threshold1, &mut exclusion1);
+    bitmaps_of(&FIRST, &mut threshold1, &mut exclusion1);
     say(b"second frame\n");
-    bitmaps_of(&second, &mut threshold2, &mut exclusion2);
+    bitmaps_of(&SECOND, &mut threshold2, &mut exclusion2);
     say(b"difference counts: a line a dx from -1 to 1, in it dy from -1 to 1\n");
     show_counts(-1, &threshold1, &exclusion1, &threshold2, &exclusion2);
     show_counts(0, &threshold1, &exclusion1, &threshold2, &exclusion2);
