@@ -1,8 +1,6 @@
 -- The reference's slot is cleared, then what each loop needs follows from what the one before it ensures.
-use Prim.Native.Nat.{_+_, _*_}
 use native.Mathlib.Omega.{arith}
-use lib.IntN.{pos}
-use lib.ListN.{set, length-set}
+use lib.ListN.{length-set}
 use borrow.Author.Needs.{needs}
 use Rattle.offsets.specs.Held.{Cleared, Summed}
 use Rattle.offsets.proofs.SlotLaws.{cleared, up-ready, down-ready, summed-about}

@@ -1,6 +1,6 @@
 -- The loop's invariant: frames k to r have their offsets, and all else is as it came. So each number that a turn subtracts is small.
 use mathlib.Core.Path.{_≡_}
-use Prim.Native.Nat.{_+_, _*_, _-_, _≤_, _<_}
+use Prim.Native.Nat.{_+_, _*_, _-_, _≤_}
 use lib.IntN.{pos}
 use lib.ListN.{getD, length-set}
 use Rattle.rules.proofs.SignedLaws.{difference-bits-fit}
@@ -25,6 +25,21 @@ small c =
 
 loop-holds : tie.Need-loop-holds Inv-loop μ-loop
 loop-holds c = (omega arith, summed-none (c .args .offsets .now) (c .args .r) (c .args .r) (c .pre .1))
+
+loop-again : tie.Need-loop-again Inv-loop μ-loop
+loop-again c =
+    let i = c .before .before .before .before in
+    let a = i .before .before in
+    let l = i .before .loop in (
+      omega arith,
+      down-again (a .args .offsets .now) (l .offsets) (a .args .r) (l .k - 1) (l .k) (a .pre .0 .0) (a .pre .0 .1) (a .pre .1) (omega arith) (l .inv .0) (l .inv .1),
+    )
+
+returns : tie.Need-returns Inv-loop μ-loop
+returns c =
+    let l = c .before .loop in
+    let e : l .k ≡ 0 = omega arith in
+    rw e at (l .inv .1)
 
 sub-k : tie.Need-sub-k Inv-loop μ-loop
 sub-k c = search needs
@@ -97,23 +112,8 @@ slice-set-from-offsets-2 c = simp length-set (omega arith)
 loop-less : tie.Need-loop-less Inv-loop μ-loop
 loop-less c = search needs
 
-loop-again : tie.Need-loop-again Inv-loop μ-loop
-loop-again c =
-    let i = c .before .before .before .before in
-    let a = i .before .before in
-    let l = i .before .loop in (
-      omega arith,
-      down-again (a .args .offsets .now) (l .offsets) (a .args .r) (l .k - 1) (l .k) (a .pre .0 .0) (a .pre .0 .1) (a .pre .1) (omega arith) (l .inv .0) (l .inv .1),
-    )
-
 same-length : tie.Need-same-length Inv-loop μ-loop
 same-length c = search needs
-
-returns : tie.Need-returns Inv-loop μ-loop
-returns c =
-    let l = c .before .loop in
-    let e : l .k ≡ 0 = omega arith in
-    rw e at (l .inv .1)
 
 pub sum-down-spec : {M : Type 1} → statement M
 sum-down-spec =

@@ -26,6 +26,22 @@ small c =
 loop-holds : tie.Need-loop-holds Inv-loop μ-loop
 loop-holds c = (omega arith, omega arith, summed-none (c .args .offsets .now) (c .args .n) (c .args .r) (c .pre .1))
 
+loop-again : tie.Need-loop-again Inv-loop μ-loop
+loop-again c =
+    let i = c .before .before .before .before in
+    let a = i .before .before in
+    let l = i .before .loop in (
+      omega arith,
+      omega arith,
+      up-again (a .args .offsets .now) (l .offsets) (a .args .n) (a .args .r) (l .k) (a .pre .0 .1) (a .pre .0 .2) (a .pre .1) (l .inv .0) (i .loop-test .taken) (l .inv .2),
+    )
+
+returns : tie.Need-returns Inv-loop μ-loop
+returns c =
+    let l = c .before .loop in
+    let e : l .k + 1 ≡ c .before .before .args .n = omega arith in
+    rw (← e) (l .inv .2)
+
 add-loop : tie.Need-add-loop Inv-loop μ-loop
 add-loop c = search needs
 
@@ -100,24 +116,8 @@ add-k c = search needs
 loop-less : tie.Need-loop-less Inv-loop μ-loop
 loop-less c = search needs
 
-loop-again : tie.Need-loop-again Inv-loop μ-loop
-loop-again c =
-    let i = c .before .before .before .before in
-    let a = i .before .before in
-    let l = i .before .loop in (
-      omega arith,
-      omega arith,
-      up-again (a .args .offsets .now) (l .offsets) (a .args .n) (a .args .r) (l .k) (a .pre .0 .1) (a .pre .0 .2) (a .pre .1) (l .inv .0) (i .loop-test .taken) (l .inv .2),
-    )
-
 same-length : tie.Need-same-length Inv-loop μ-loop
 same-length c = search needs
-
-returns : tie.Need-returns Inv-loop μ-loop
-returns c =
-    let l = c .before .loop in
-    let e : l .k + 1 ≡ c .before .before .args .n = omega arith in
-    rw (← e) (l .inv .2)
 
 pub sum-up-spec : {M : Type 1} → statement M
 sum-up-spec =
