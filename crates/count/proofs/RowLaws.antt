@@ -98,9 +98,13 @@ pub total-row-le : (w h y : ℕ) (words : List ℕ) → w ≤ 4096 → rowSum w 
 total-row-le w h y words l = let a = bits-le w (λ x. bitAt w h words x y) (λ x. bitAt-lt w h words x y) in omega arith
 
 -- a full word of a row as it stands
-pub full-word : (words : List ℕ) (base w k : ℕ) → k + 2 ≤ rowWords w → WordOf (rowBit words base w) k (getD words (base + k) 0)
-unfolding rowWords
+pub full-word : (words : List ℕ) (base w k : ℕ) → (k + 1) * 64 ≤ w → WordOf (rowBit words base w) k (getD words (base + k) 0)
 full-word words base w k l i m = sym (row-bit words base w k i (omega arith) m)
+
+-- every word before the last is full
+pub before-last : (w last k : ℕ) → last + 1 ≡ rowWords w → k < last → (k + 1) * 64 ≤ w
+unfolding rowWords
+before-last w last k e l = omega arith
 
 -- a row in three parts
 pub row-parts : (f : ℕ → ℕ) (w n first end a b c : ℕ) → n ≡ rowWords w → ((x : ℕ) → w ≤ x → f x ≡ 0)

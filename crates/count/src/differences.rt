@@ -28,7 +28,7 @@ const BIAS: usize = 2147483648;
 const BIAS_WORDS: usize = 33554432;
 
 // A move of rows of w pixels, in n words, by q words, counted from the bias, and r bits. A word from
-// `first` up to `end` is made of two words of the row, and none of the three is the row's last: it
+// `first` up to `end` is interior: it is made of two words of the row, all three of them full, and so
 // needs no test and no mask.
 pub struct Move {
     pub w: usize,
@@ -59,7 +59,8 @@ fn move_by(w: usize, d: usize) -> Move
 {
     let n = row_words(w);
     let q = d / WORD_BITS;
-    let end = lower(n - 1, upper(q + n - 1, BIAS_WORDS) - BIAS_WORDS);
+    let full = w / WORD_BITS;
+    let end = lower(full, upper(q + full, BIAS_WORDS) - BIAS_WORDS);
     let first = lower(end, upper(q + 1, BIAS_WORDS) - BIAS_WORDS);
     Move {
         w,

@@ -2,9 +2,8 @@ use mathlib.Core.Path.{refl}
 use lib.ListN.{length, getD}
 use Rattle.count.specs.Rows.{Interior}
 use Rattle.count.proofs.RowLaws.{full-word}
-use Prim.Native.Nat.{ℕ, _+_, _*_, _-_, _≤_, _<_}
-use Rattle.rules.specs.Bitmaps.{rowWords}
-use Rattle.count.proofs.DifferLaws.{none-adds, differ-adds, interior-word}
+use Prim.Native.Nat.{ℕ, _+_, _*_, _-_, _/_, _≤_, _<_}
+use Rattle.count.proofs.DifferLaws.{full-le, none-adds, differ-adds, interior-word}
 use native.Mathlib.Omega.{arith}
 use borrow.Author.Needs.{needs}
 use Rattle.count.proofs.differences.interior_word.Statement.{statement}
@@ -17,11 +16,14 @@ use Rattle.count.proofs.ones.word_ones.Reads as word-ones-reads
 abbrev at : tie.Start → ℕ
 at c = c .args .from + c .args .k + 33554432 - c .args .m .q
 
-inside : (c : tie.Start) → Interior (rowWords (c .args .m .w)) (c .args .m .q) (c .args .k)
-inside c = rw (c .pre .0 .row) at (c .pre .0 .inside (c .args .k) (c .pre .1 .0 .0) (c .pre .1 .0 .1))
+inside : (c : tie.Start) → Interior (c .args .m .w / 64) (c .args .m .q) (c .args .k)
+inside c = c .pre .0 .inside (c .args .k) (c .pre .1 .0 .0) (c .pre .1 .0 .1)
+
+full : (c : tie.Start) → (c .args .k + 1) * 64 ≤ c .args .m .w
+full c = let i = inside c in omega arith
 
 place : (c : tie.Start) → (1 ≤ at c) × ((at c < length (c .args .t2 .now)) × (at c < length (c .args .e2 .now)))
-place c = let i = inside c in (omega arith, (omega arith, omega arith))
+place c = let i = inside c in let f = full-le (c .args .m .w) in (omega arith, (omega arith, omega arith))
 
 -- src/differences.rt:102:13
 add-i : tie.Need-add-i
@@ -59,7 +61,7 @@ returns c =
     let d = a .m .q * 64 + a .m .r in
     let v = c .before .joined-word in
     none-adds (a .t1 .now) (a .e1 .now) (a .t2 .now) (a .e2 .now) (a .base) (a .from) (a .m .w) d (a .k) (getD (a .e1 .now) (a .base + a .k) 0) (v .result)
-    (full-word (a .e1 .now) (a .base) (a .m .w) (a .k) (inside s .here))
+    (full-word (a .e1 .now) (a .base) (a .m .w) (a .k) (full s))
     (interior-word (a .e2 .now) (a .from) (a .m .w) (a .m .q) (a .m .r) (a .k) (at s) (v .result) (s .pre .0 .bits) (inside s) refl (v .ensures))
     (c .if1 .taken)
 
@@ -89,7 +91,7 @@ returns-2 c =
     let v = b .joined-word in
     let u = c .before .joined-word2 in
     differ-adds (a .t1 .now) (a .e1 .now) (a .t2 .now) (a .e2 .now) (a .base) (a .from) (a .m .w) d (a .k) (getD (a .e1 .now) (a .base + a .k) 0) (v .result)
-    (full-word (a .e1 .now) (a .base) (a .m .w) (a .k) (inside s .here))
+    (full-word (a .e1 .now) (a .base) (a .m .w) (a .k) (full s))
     (interior-word (a .e2 .now) (a .from) (a .m .w) (a .m .q) (a .m .r) (a .k) (at s) (v .result) (s .pre .0 .bits) (inside s) refl (v .ensures))
     (u .result) (c .word-ones .result)
     (interior-word (a .t2 .now) (a .from) (a .m .w) (a .m .q) (a .m .r) (a .k) (at s) (u .result) (s .pre .0 .bits) (inside s) refl (u .ensures))

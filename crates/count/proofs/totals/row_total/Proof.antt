@@ -1,5 +1,5 @@
 use lib.ListN.{getD}
-use Rattle.count.proofs.RowLaws.{word-next, full-word, row-last, adds-le, ones-le, rowBit-lt, row-words-le}
+use Rattle.count.proofs.RowLaws.{word-next, full-word, before-last, row-last, adds-le, ones-le, rowBit-lt, row-words-le}
 use Prim.Native.Nat.{ℕ, _≤_, _+_, _*_, _-_, _<_}
 use Rattle.words.specs.Rows.{rowBit}
 use Rattle.count.specs.Rows.{Adds}
@@ -67,7 +67,7 @@ loop-again c =
     let a = s .args in
     let l = c .before .before .before .loop in
     (omega arith, word-next (rowBit (a .bitmap .now) (a .base) (a .w)) 0 (l .k) (l .count) (getD (a .bitmap .now) (a .base + l .k) 0) (c .word-ones .result) (l .inv .1)
-    (full-word (a .bitmap .now) (a .base) (a .w) (l .k) (omega arith)) (c .word-ones .ensures))
+    (full-word (a .bitmap .now) (a .base) (a .w) (l .k) (before-last (a .w) (a .last) (l .k) (s .pre .1 .0) (omega arith))) (c .word-ones .ensures))
 
 -- src/totals.rt:32:23
 row-word-requires : tie.Need-row-word-requires Inv-loop μ-loop
