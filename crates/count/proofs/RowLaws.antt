@@ -6,14 +6,14 @@ use native.Mathlib.Nat.{add-zero}
 use native.Mathlib.Omega.{arith}
 use lib.Dec.{ltb}
 use lib.ListN.{getD}
-use Rattle.rules.specs.Sums.{sum, rowSum, sumPixels}
+use Rattle.rules.specs.Sums.{gate, sum, rowSum, sumPixels}
 use Rattle.rules.specs.Planes.{total}
 use Rattle.rules.specs.Bitmaps.{bit, bitAt, rowWords}
 use Rattle.rules.proofs.SumLaws.{gate-le, sum-ext, sum-zero, sum-le, sum-more, sum-split}
 use Rattle.rules.proofs.FrameLaws.{row-fits}
 use Rattle.words.specs.Rows.{WordOf, rowBit}
 use Rattle.words.proofs.BitLaws.{bit-lt, bit-zero}
-use Rattle.words.proofs.MoveLaws.{gate-lt, row-bit, row-past, bitAt-row}
+use Rattle.words.proofs.MoveLaws.{gate-lt, row-bit, row-past, row-last, bitAt-row}
 use Rattle.count.specs.Rows.{Adds}
 
 -- one word more of a row
@@ -101,34 +101,40 @@ total-row-le w h y words l = let a = bits-le w (λ x. bitAt w h words x y) (λ x
 pub full-word : (words : List ℕ) (base w k : ℕ) → (k + 1) * 64 ≤ w → WordOf (rowBit words base w) k (getD words (base + k) 0)
 full-word words base w k l i m = sym (row-bit words base w k i (omega arith) m)
 
--- every word before the last is full
-pub before-last : (w last k : ℕ) → last + 1 ≡ rowWords w → k < last → (k + 1) * 64 ≤ w
-unfolding rowWords
-before-last w last k e l = omega arith
-
 -- a row in three parts
 pub row-parts : (f : ℕ → ℕ) (w n first end a b c : ℕ) → n ≡ rowWords w → ((x : ℕ) → w ≤ x → f x ≡ 0)
     → Adds f 0 first a → Adds f first end b → Adds f end n c → a + b + c ≡ sum w f
 row-parts f w n first end a b c e z p q r =
     row-whole f w (a + b + c) z (rw e at (adds-more f 0 end n (a + b) c (adds-more f 0 first end a b p q) r))
 
--- a row of which the last word is still to come
-pub row-last : (words : List ℕ) (base w last k count v ones : ℕ) → last + 1 ≡ rowWords w → k ≡ last
-    → Adds (rowBit words base w) 0 k count → WordOf (rowBit words base w) last v → ones ≡ sum 64 (bit v)
-    → count + ones ≡ sum w (rowBit words base w)
-row-last words base w last k count v ones n e a d o =
+-- a row of which the last word, with `rest` pixels, is still to come
+pub row-ends : (words : List ℕ) (base last rest k count v ones : ℕ) → 1 ≤ rest → rest ≤ 64 → k ≡ last
+    → Adds (rowBit words base (last * 64 + rest)) 0 k count
+    → ((i : ℕ) → bit v i ≡ gate (ltb i rest) (bit (getD words (base + last) 0) i)) → ones ≡ sum 64 (bit v)
+    → count + ones ≡ sum (last * 64 + rest) (rowBit words base (last * 64 + rest))
+unfolding rowWords
+row-ends words base last rest k count v ones l m e a d o =
+    let w : ℕ = last * 64 + rest in
     let f : ℕ → ℕ = rowBit words base w in
-    row-whole f w (count + ones) (row-past words base w) (rw n at (word-next f 0 last count v ones (rw e at a) d o))
+    let n : last + 1 ≡ rowWords w = omega arith in
+    let r : w - last * 64 ≡ rest = omega arith in
+    let b : WordOf f last v = λ i h. d i ∙ ap (λ (j : ℕ). gate (ltb i j) (bit (getD words (base + last) 0) i)) (sym r) ∙ row-last words base w last i (omega arith) h in
+    row-whole f w (count + ones) (row-past words base w) (rw n at (word-next f 0 last count v ones (rw e at a) b o))
+
+-- the pixels of a row's last word
+pub last-word : (w n : ℕ) → 0 < w → n ≡ rowWords w → (1 ≤ n) × (((n - 1) * 64 < w) × (w ≤ n * 64))
+unfolding rowWords
+last-word w n l e = (omega arith, (omega arith, omega arith))
 
 -- one row more of a frame
 pub rows-more : (f : ℕ → ℕ) (y count more : ℕ) → count ≡ sum y f → more ≡ f y → count + more ≡ sum (y + 1) f
 rows-more f y count more a e = let b = sum-more y f in omega arith
 
-pub total-row : (w h y base : ℕ) (words : List ℕ) → y < h → base ≡ y * rowWords w
-    → sum w (rowBit words base w) ≡ rowSum w (bitAt w h words) y
-total-row w h y base words l b =
-    sum-ext w (rowBit words base w) (λ x. bitAt w h words x y)
-    (λ x k. ap (λ (z : ℕ). rowBit words z w x) b ∙ sym (bitAt-in w h words x y l))
+pub total-row : (w w′ h y base : ℕ) (words : List ℕ) → y < h → w′ ≡ w → base ≡ y * rowWords w
+    → sum w′ (rowBit words base w′) ≡ rowSum w (bitAt w h words) y
+total-row w w′ h y base words l e b =
+    (λ j. sum (e j) (rowBit words (b j) (e j)))
+    ∙ sum-ext w (rowBit words (y * rowWords w) w) (λ x. bitAt w h words x y) (λ x k. sym (bitAt-in w h words x y l))
 
 pub total-whole : (w h : ℕ) (words : List ℕ) → sum h (rowSum w (bitAt w h words)) ≡ total w h (bitAt w h words)
 unfolding total sumPixels

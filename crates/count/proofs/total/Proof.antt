@@ -30,7 +30,7 @@ total-frame-requires : tie.Need-total-frame-requires
 total-frame-requires c κs = 
     let a = c .before .before .before .before .args in
     let k = total-ok (a .w) (a .h) (length (a .bitmap .now)) (sym (c .before .before .total-refusal .ensures) ∙ c .before .if1 .left) in
-    (omega arith, (omega arith, (omega arith, (omega arith, counts-ones))))
+    ((omega arith, omega arith), (omega arith, (omega arith, counts-ones)))
 
 returns-2 : tie.Need-returns-2
 returns-2 c =
