@@ -1,7 +1,7 @@
 -- The difference of two frames, row by row and word by word.
 use mathlib.Core.Path.{_≡_, refl, sym, ap, ap₂, _∙_}
 use mathlib.Core.Bool.{Bool, true, false, _&&_, not}
-use mathlib.Core.Logic.{_⊎_, inl, inr, ⊎-elim}
+use mathlib.Core.Logic.{_⊎_, ⊎-elim}
 use mathlib.Core.List.{List}
 use Prim.Native.Nat.{ℕ, zero, suc, _+_, _*_, _-_, _/_, _%_, _^_, _≤_, _<_, min, max}
 use native.Mathlib.Nat.{mod-lt, le-trans, lt-of-lt-of-le}
@@ -17,12 +17,12 @@ use Rattle.rules.specs.Bitmaps.{bit, bitAt, rowWords}
 use Rattle.rules.specs.Planes.{within}
 use Rattle.rules.specs.Differences.{differ as differPixels, differAt, difference}
 use Rattle.rules.specs.Calls.{planesOf}
-use Rattle.rules.proofs.SumLaws.{order, gate-le, sum-ext, sum-zero, sum-more}
+use Rattle.rules.proofs.SumLaws.{order, gate-le, sum-ext, sum-zero}
 use Rattle.count.specs.declared.differences.Move.{Move}
 use Rattle.words.specs.Rows.{WordOf, rowBit, back, bias, biasWords, biasOf}
 use Rattle.words.proofs.BitLaws.{bit-lt, bit-and, bit-or, bit-xor, bit-shr, bit-above, bit-zero, bit-shl64-high, bit-shl64-low}
-use Rattle.words.proofs.MoveLaws.{gate-lt, gate-ge, row-bit, row-past, bitAt-row, back-at, back-under, within-back}
-use Rattle.count.specs.Rows.{Adds, frameDiffer, disagree, movedBit, rowDiffer, lineDiffer, Joined, Interior, Moves, RowsIn, FramesIn}
+use Rattle.words.proofs.MoveLaws.{gate-lt, gate-ge, row-bit, row-past, back-at, back-under, within-back}
+use Rattle.count.specs.Rows.{Adds, frameDiffer, disagree, movedBit, rowDiffer, lineDiffer, movedDiffer, Joined, Interior, Moves, RowsIn, FramesIn}
 use Rattle.count.proofs.RowLaws.{word-more, word-none, full-word, bitAt-in, bits-le, row-room}
 
 -- ---- the four bits of a pixel
@@ -223,6 +223,9 @@ interior-word words from w q r k j v l n e a i m = ⊎-elim below above (order i
 pub rowDiffer-lt : (t1 e1 t2 e2 : List ℕ) (base from w d x : ℕ) → rowDiffer t1 e1 t2 e2 base from w d x < 2
 unfolding rowDiffer
 rowDiffer-lt t1 e1 t2 e2 base from w d x = disagree-lt (rowBit t1 base w x) (rowBit e1 base w x) (movedBit t2 from w d x) (movedBit e2 from w d x)
+
+pub movedDiffer-lt : (t1 e1 t2 e2 : List ℕ) (base from : ℕ) (m : Move) (x : ℕ) → movedDiffer t1 e1 t2 e2 base from m x < 2
+movedDiffer-lt t1 e1 t2 e2 base from m x = rowDiffer-lt t1 e1 t2 e2 base from (m .w) (m .q * 64 + m .r) x
 
 pub rowDiffer-past : (t1 e1 t2 e2 : List ℕ) (base from w d x : ℕ) → w ≤ x → rowDiffer t1 e1 t2 e2 base from w d x ≡ 0
 unfolding rowDiffer

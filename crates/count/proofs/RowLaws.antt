@@ -61,6 +61,10 @@ ones-le v = bits-le 64 (bit v) (bit-lt v)
 pub adds-le : (f : ℕ → ℕ) (first end count : ℕ) → ((i : ℕ) → f i < 2) → Adds f first end count → count ≤ end * 64
 adds-le f first end count b a = let c = bits-le (end * 64) f b in omega arith
 
+pub adds-next-le : (f : ℕ → ℕ) (first k count more : ℕ) → ((i : ℕ) → f i < 2) → Adds f first k count → Adds f k (k + 1) more
+    → count + more ≤ (k + 1) * 64
+adds-next-le f first k count more b p q = adds-le f first (k + 1) (count + more) b (adds-more f first k (k + 1) count more p q)
+
 pub rows-le : (f : ℕ → ℕ) (y : ℕ) → ((z : ℕ) → f z ≤ 4096) → sum y f ≤ y * 4096
 rows-le f y b = sum-le y 4096 f (λ z l. b z)
 

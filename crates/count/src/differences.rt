@@ -6,7 +6,6 @@ use refusals::row_words;
 use words::biased;
 use words::moved_word;
 use words::row_word;
-
 ghost use mathlib.Core.Path.{_≡_};
 ghost use Prim.Native.Nat.{ℕ, _+_, _*_, _-_, _<_, _≤_, min, max};
 ghost use lib.ListN.{length, getD};
@@ -132,7 +131,10 @@ fn careful_word(
     if kept == 0 {
         return 0;
     }
-    word_ones((t1[base + k] ^ moved_word(t2, from, m.w, at, m.q, m.r)) & kept, ones)
+    word_ones(
+        (t1[base + k] ^ moved_word(t2, from, m.w, at, m.q, m.r)) & kept,
+        ones,
+    )
 }
 
 // A row's interior words.

@@ -10,7 +10,6 @@ use refusals::difference_refusal;
 use refusals::total_refusal;
 use rules::Counted;
 use totals::total_frame;
-
 ghost use mathlib.Core.Path.{_≡_};
 ghost use Rattle.rules.specs.Calls.{totalAnswer, differenceAnswer};
 
@@ -52,6 +51,14 @@ pub fn difference(
     }
     let ones = ONES;
     Counted::Count(difference_frame(
-        w, h, dx, dy, threshold1, exclusion1, threshold2, exclusion2, &ones,
+        w,
+        h,
+        dx,
+        dy,
+        threshold1,
+        exclusion1,
+        threshold2,
+        exclusion2,
+        &ones,
     ))
 }

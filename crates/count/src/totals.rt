@@ -3,7 +3,6 @@
 use crate::ones::word_ones;
 use refusals::row_words;
 use words::keep_low;
-
 ghost use mathlib.Core.Path.{_≡_};
 ghost use Prim.Native.Nat.{_+_, _*_, _<_, _≤_};
 ghost use lib.ListN.{length};

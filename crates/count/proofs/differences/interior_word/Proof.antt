@@ -1,17 +1,14 @@
+-- The four words as they stand are the rows' pixels, since all are full; without a kept pixel nothing differs.
 use mathlib.Core.Path.{refl}
+use Prim.Native.Nat.{ℕ, _+_, _*_, _-_, _/_, _≤_, _<_}
+use native.Mathlib.Omega.{arith}
 use lib.ListN.{length, getD}
+use borrow.Author.Needs.{needs}
 use Rattle.count.specs.Rows.{Interior}
 use Rattle.count.proofs.RowLaws.{full-word}
-use Prim.Native.Nat.{ℕ, _+_, _*_, _-_, _/_, _≤_, _<_}
 use Rattle.count.proofs.DifferLaws.{full-le, none-adds, differ-adds, interior-word}
-use native.Mathlib.Omega.{arith}
-use borrow.Author.Needs.{needs}
 use Rattle.count.proofs.differences.interior_word.Statement.{statement}
 use Rattle.count.proofs.differences.interior_word.Tie as tie
-use Rattle.count.proofs.differences.interior_word.Reads as reads
-use Rattle.count.proofs.differences.interior_word.Lts as lts
-use Rattle.count.proofs.differences.joined_word.Reads as joined-word-reads
-use Rattle.count.proofs.ones.word_ones.Reads as word-ones-reads
 
 abbrev at : tie.Start → ℕ
 at c = c .args .from + c .args .k + 33554432 - c .args .m .q
@@ -25,35 +22,27 @@ full c = let i = inside c in omega arith
 place : (c : tie.Start) → (1 ≤ at c) × ((at c < length (c .args .t2 .now)) × (at c < length (c .args .e2 .now)))
 place c = let i = inside c in let f = full-le (c .args .m .w) in (omega arith, (omega arith, omega arith))
 
--- src/differences.rt:102:13
 add-i : tie.Need-add-i
 add-i c = search needs
 
--- src/differences.rt:103:13
 add-j : tie.Need-add-j
 add-j c = search needs
 
--- src/differences.rt:103:13
 add-j-2 : tie.Need-add-j-2
 add-j-2 c = search needs
 
--- src/differences.rt:103:13
 sub-j : tie.Need-sub-j
 sub-j c = omega (arith, inside (c .before .before .before .before .before))
 
--- src/differences.rt:104:16
 mul-kept : tie.Need-mul-kept
 mul-kept c = search needs
 
--- src/differences.rt:104:16
 shared-slice-read-kept : tie.Need-shared-slice-read-kept
 shared-slice-read-kept c = search needs
 
--- src/differences.rt:104:24
 joined-word-requires : tie.Need-joined-word-requires
 joined-word-requires c κs = let s = c .before .before .before .before .before .before in (s .pre .0 .bits, (place s .0, place s .1 .1))
 
--- src/differences.rt:106:9
 returns : tie.Need-returns
 returns c =
     let s = c .before .before .before .before .before .before .before .before in
@@ -65,23 +54,18 @@ returns c =
     (interior-word (a .e2 .now) (a .from) (a .m .w) (a .m .q) (a .m .r) (a .k) (at s) (v .result) (s .pre .0 .bits) (inside s) refl (v .ensures))
     (c .if1 .taken)
 
--- src/differences.rt:108:16
 mul-word-ones : tie.Need-mul-word-ones
 mul-word-ones c = search needs
 
--- src/differences.rt:108:16
 shared-slice-read-word-ones : tie.Need-shared-slice-read-word-ones
 shared-slice-read-word-ones c = search needs
 
--- src/differences.rt:108:24
 joined-word-requires-2 : tie.Need-joined-word-requires-2
 joined-word-requires-2 c κs = let s = c .before .before .before .before .before .before .before .before .before in (s .pre .0 .bits, (place s .0, place s .1 .0))
 
--- src/differences.rt:108:5
 word-ones-requires : tie.Need-word-ones-requires
 word-ones-requires c κs = search needs
 
--- src/differences.rt:85:1
 returns-2 : tie.Need-returns-2
 returns-2 c =
     let b = c .before .before .before .before in

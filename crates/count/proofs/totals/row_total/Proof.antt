@@ -1,16 +1,13 @@
+-- The invariant: the count is what the full words passed add to the row's sum.
 use Prim.Native.Nat.{_≤_, _+_, _*_, _-_}
+use native.Mathlib.Omega.{arith}
 use lib.ListN.{getD}
+use borrow.Author.Needs.{needs}
 use Rattle.words.specs.Rows.{rowBit}
 use Rattle.count.specs.Rows.{Adds}
 use Rattle.count.proofs.RowLaws.{word-next, full-word, row-ends, adds-none, adds-le, ones-le, rowBit-lt}
-use native.Mathlib.Omega.{arith}
-use borrow.Author.Needs.{needs}
 use Rattle.count.proofs.totals.row_total.Statement.{statement}
 use Rattle.count.proofs.totals.row_total.Tie as tie
-use Rattle.count.proofs.totals.row_total.Reads as reads
-use Rattle.count.proofs.totals.row_total.Lts as lts
-use Rattle.count.proofs.ones.word_ones.Reads as word-ones-reads
-use Rattle.words.proofs.keep_low.Reads as keep-low-reads
 
 abbrev Inv-loop : tie.InvT-loop
 Inv-loop last rest base bitmap ones count₀ k₀ count k = (k ≤ last) × Adds (rowBit bitmap base (last * 64 + rest)) 0 k count
@@ -24,74 +21,60 @@ so-far c =
     let a = s .args in
     omega (arith, s .pre, adds-le (rowBit (a .bitmap .now) (a .base) (a .last * 64 + a .rest)) 0 (c .loop .k) (c .loop .count) (rowBit-lt (a .bitmap .now) (a .base) (a .last * 64 + a .rest)) (c .loop .inv .1))
 
--- src/totals.rt:29:5
 loop-holds : tie.Need-loop-holds Inv-loop μ-loop
 loop-holds c = let a = c .before .args in (omega arith, adds-none (rowBit (a .bitmap .now) (a .base) (a .last * 64 + a .rest)) 0)
 
--- src/totals.rt:30:35
 add-word-ones : tie.Need-add-word-ones Inv-loop μ-loop
 add-word-ones c = search needs
 
--- src/totals.rt:30:28
 mul-word-ones : tie.Need-mul-word-ones Inv-loop μ-loop
 mul-word-ones c = search needs
 
--- src/totals.rt:30:28
 shared-slice-read-word-ones : tie.Need-shared-slice-read-word-ones Inv-loop μ-loop
 shared-slice-read-word-ones c = search needs
 
--- src/totals.rt:30:18
 word-ones-requires : tie.Need-word-ones-requires Inv-loop μ-loop
 word-ones-requires c κs = search needs
 
--- src/totals.rt:30:9
 add-count : tie.Need-add-count Inv-loop μ-loop
 add-count c =
     let a = c .before .before .before .before .before .args in
     let l = c .before .before .before .loop in
     omega (arith, so-far (c .before .before .before), ones-le (getD (a .bitmap .now) (a .base + l .k) 0))
 
--- src/totals.rt:31:9
 add-k : tie.Need-add-k Inv-loop μ-loop
 add-k c = search needs
 
--- src/totals.rt:29:5
 loop-less : tie.Need-loop-less Inv-loop μ-loop
 loop-less c = search needs
 
--- src/totals.rt:29:5
 loop-again : tie.Need-loop-again Inv-loop μ-loop
 loop-again c =
     let a = c .before .before .before .before .before .args in
-    let l = c .before .before .before .loop in
-    (omega arith, word-next (rowBit (a .bitmap .now) (a .base) (a .last * 64 + a .rest)) 0 (l .k) (l .count) (getD (a .bitmap .now) (a .base + l .k) 0) (c .word-ones .result) (l .inv .1)
-    (full-word (a .bitmap .now) (a .base) (a .last * 64 + a .rest) (l .k) (omega arith)) (c .word-ones .ensures))
+    let l = c .before .before .before .loop in (
+      omega arith,
+      word-next (rowBit (a .bitmap .now) (a .base) (a .last * 64 + a .rest)) 0 (l .k) (l .count) (getD (a .bitmap .now) (a .base + l .k) 0) (c .word-ones .result) (l .inv .1)
+          (full-word (a .bitmap .now) (a .base) (a .last * 64 + a .rest) (l .k) (omega arith)) (c .word-ones .ensures),
+    )
 
--- src/totals.rt:33:39
 add-keep-low : tie.Need-add-keep-low Inv-loop μ-loop
 add-keep-low c = search needs
 
--- src/totals.rt:33:32
 mul-keep-low : tie.Need-mul-keep-low Inv-loop μ-loop
 mul-keep-low c = search needs
 
--- src/totals.rt:33:32
 shared-slice-read-keep-low : tie.Need-shared-slice-read-keep-low Inv-loop μ-loop
 shared-slice-read-keep-low c = search needs
 
--- src/totals.rt:33:23
 keep-low-requires : tie.Need-keep-low-requires Inv-loop μ-loop
 keep-low-requires c κs = search needs
 
--- src/totals.rt:33:13
 word-ones-requires-2 : tie.Need-word-ones-requires-2 Inv-loop μ-loop
 word-ones-requires-2 c κs = search needs
 
--- src/totals.rt:33:5
 add-result : tie.Need-add-result Inv-loop μ-loop
 add-result c = omega (arith, so-far (c .before .before .before .before), ones-le (c .before .keep-low .result))
 
--- src/totals.rt:21:1
 returns : tie.Need-returns Inv-loop μ-loop
 returns c =
     let s = c .before .before .before .before .before .before in

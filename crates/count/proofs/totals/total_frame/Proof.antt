@@ -1,18 +1,15 @@
+-- The invariant: the count is the sum of the rows passed.
 use mathlib.Core.Path.{_≡_, sym, ap, _∙_}
 use Prim.Native.Nat.{ℕ, _≤_, _<_, _+_, _*_, _-_}
+use native.Mathlib.Omega.{arith}
 use lib.ListN.{length}
+use borrow.Author.Needs.{needs}
 use Rattle.rules.specs.Sums.{sum, rowSum}
 use Rattle.rules.specs.Bitmaps.{bitAt, rowWords}
 use Rattle.rules.proofs.SumLaws.{sum-none}
 use Rattle.count.proofs.RowLaws.{last-word, row-words-le, row-room, rows-le, rows-more, total-row, total-row-le, total-whole}
-use native.Mathlib.Omega.{arith}
-use borrow.Author.Needs.{needs}
 use Rattle.count.proofs.totals.total_frame.Statement.{statement}
 use Rattle.count.proofs.totals.total_frame.Tie as tie
-use Rattle.count.proofs.totals.total_frame.Reads as reads
-use Rattle.count.proofs.totals.total_frame.Lts as lts
-use Rattle.count.proofs.totals.row_total.Reads as row-total-reads
-use Rattle.refusals.proofs.row_words.Reads as row-words-reads
 
 abbrev Inv-loop : tie.InvT-loop
 Inv-loop w h bitmap ones n last rest count₀ y₀ count y = (y ≤ h) × (count ≡ sum y (rowSum w (bitAt w h bitmap)))
@@ -20,7 +17,6 @@ Inv-loop w h bitmap ones n last rest count₀ y₀ count y = (y ≤ h) × (count
 abbrev μ-loop : tie.MeasureT-loop
 μ-loop w h bitmap ones n last rest count₀ y₀ count y = h - y
 
--- src/totals.rt:44:9
 row-words-requires : tie.Need-row-words-requires Inv-loop μ-loop
 row-words-requires c κs = search needs
 
@@ -34,15 +30,12 @@ known c =
 sub-last : tie.Need-sub-last Inv-loop μ-loop
 sub-last c = omega (arith, known c)
 
--- src/totals.rt:46:20
 mul-rest : tie.Need-mul-rest Inv-loop μ-loop
 mul-rest c = omega (arith, known c)
 
--- src/totals.rt:46:16
 sub-rest : tie.Need-sub-rest Inv-loop μ-loop
 sub-rest c = omega (arith, known c)
 
--- src/totals.rt:49:5
 loop-holds : tie.Need-loop-holds Inv-loop μ-loop
 loop-holds c =
     let a = c .before .before .args in
@@ -58,7 +51,6 @@ room c =
 mul-row-total : tie.Need-mul-row-total Inv-loop μ-loop
 mul-row-total c = omega (arith, room c)
 
--- src/totals.rt:50:18
 row-total-requires : tie.Need-row-total-requires Inv-loop μ-loop
 row-total-requires c κs =
     let k = known (c .before .before) in
@@ -86,22 +78,18 @@ add-count c =
     let y = c .before .before .loop .y in
     omega (arith, s .pre, rows-le (rowSum (a .w) (bitAt (a .w) (a .h) (a .bitmap .now))) y small, small y, row c)
 
--- src/totals.rt:51:9
 add-y : tie.Need-add-y Inv-loop μ-loop
 add-y c = search needs
 
--- src/totals.rt:49:5
 loop-less : tie.Need-loop-less Inv-loop μ-loop
 loop-less c = search needs
 
--- src/totals.rt:49:5
 loop-again : tie.Need-loop-again Inv-loop μ-loop
 loop-again c =
     let a = c .before .before .before .before .before .args in
     let l = c .before .before .loop in
     (omega arith, rows-more (rowSum (a .w) (bitAt (a .w) (a .h) (a .bitmap .now))) (l .y) (l .count) (c .row-total .result) (l .inv .1) (row c))
 
--- src/totals.rt:37:1
 returns : tie.Need-returns Inv-loop μ-loop
 returns c =
     let a = c .before .before .before .before .args in
