@@ -27,16 +27,16 @@ use Rattle.count.proofs.RowLaws.{word-more, word-none, full-word, bitAt
 
 -- ---- the four bits of a pixel
 
-pub disagree-lt : (t1 e1 t2 e2 : ℕ) → disagree t1 e1 t2 e2 < 2
+disagree-lt : (t1 e1 t2 e2 : ℕ) → disagree t1 e1 t2 e2 < 2
 unfolding disagree
 disagree-lt t1 e1 t2 e2 = let a = gate-le (eqb e1 1 && (eqb e2 1 && not (eqb t1 t2))) 1 in omega arith
 
 -- a pixel that one exclusion bit leaves out
-pub disagree-left : (t1 t2 e2 : ℕ) → disagree t1 0 t2 e2 ≡ 0
+disagree-left : (t1 t2 e2 : ℕ) → disagree t1 0 t2 e2 ≡ 0
 unfolding disagree
 disagree-left t1 t2 e2 = refl
 
-pub disagree-right : (t1 e1 t2 : ℕ) → disagree t1 e1 t2 0 ≡ 0
+disagree-right : (t1 e1 t2 : ℕ) → disagree t1 e1 t2 0 ≡ 0
 unfolding disagree
 disagree-right t1 e1 t2 = out (eqb e1 1)
   where
@@ -81,7 +81,7 @@ excluded t1 t2 on on l = absurd (omega arith)
 
 -- ---- the pixels of a word
 
-pub mixed-bit : (t1 e1 t2 e2 i : ℕ) → bit (bitAnd (bitXor t1 t2) (bitAnd e1 e2)) i ≡ disagree (bit t1 i) (bit e1 i) (bit t2 i) (bit e2 i)
+mixed-bit : (t1 e1 t2 e2 i : ℕ) → bit (bitAnd (bitXor t1 t2) (bitAnd e1 e2)) i ≡ disagree (bit t1 i) (bit e1 i) (bit t2 i) (bit e2 i)
 mixed-bit t1 e1 t2 e2 i =
     bit-and (bitXor t1 t2) (bitAnd e1 e2) i
     ∙ ap₂ (λ (a b : ℕ). min a b) (bit-xor t1 t2 i) (bit-and e1 e2 i)
@@ -175,16 +175,15 @@ pub full-le : (w : ℕ) → w / 64 ≤ rowWords w
 unfolding rowWords
 full-le w = omega arith
 
-pub moves : (m : Move) (d : ℕ) → 0 < m .w → m .w ≤ 4096 → m .n ≡ rowWords (m .w) → m .r ≡ d % 64
+pub moves : (m : Move) (d : ℕ) → m .w ≤ 4096 → m .n ≡ rowWords (m .w) → m .r ≡ d % 64
     → m .end ≡ min (m .w / 64) (max (m .q + m .w / 64) biasWords - biasWords) → m .first ≡ min (m .end) (max (m .q + 1) biasWords - biasWords)
     → Moves m
-moves m d a b e r f g =
+moves m d b e r f g =
     let s = first-in (m .q) (m .first) (m .end) g in
     let t = end-in (m .w / 64) (m .q) (m .end) f in
     let u = t .0 in
     let v = full-le (m .w) in
     record {
-      wide = a;
       width = b;
       row = e;
       bits = rw r (mod-lt d (omega arith));
@@ -220,7 +219,7 @@ interior-word words from w q r k j v l n e a i m = ⊎-elim below above (order i
 
 -- ---- rows and frames
 
-pub rowDiffer-lt : (t1 e1 t2 e2 : List ℕ) (base from w d x : ℕ) → rowDiffer t1 e1 t2 e2 base from w d x < 2
+rowDiffer-lt : (t1 e1 t2 e2 : List ℕ) (base from w d x : ℕ) → rowDiffer t1 e1 t2 e2 base from w d x < 2
 unfolding rowDiffer
 rowDiffer-lt t1 e1 t2 e2 base from w d x = disagree-lt (rowBit t1 base w x) (rowBit e1 base w x) (movedBit t2 from w d x) (movedBit e2 from w d x)
 

@@ -38,7 +38,7 @@ pub word-none : (f : ℕ → ℕ) (k : ℕ) → WordOf f k 0 → Adds f k (k + 1
 word-none f k e = let a = word-more f k 0 e in let z = sum-zero 64 (bit 0) (λ i l. bit-zero i) in omega arith
 
 -- nothing is added past the last pixel
-pub sum-stop : (m n : ℕ) (f : ℕ → ℕ) → m ≤ n → ((i : ℕ) → m ≤ i → f i ≡ 0) → sum n f ≡ sum m f
+sum-stop : (m n : ℕ) (f : ℕ → ℕ) → m ≤ n → ((i : ℕ) → m ≤ i → f i ≡ 0) → sum n f ≡ sum m f
 sum-stop m n f l e =
     let d : n ≡ m + (n - m) = omega arith in
     ap (λ (k : ℕ). sum k f) d
@@ -47,7 +47,7 @@ sum-stop m n f l e =
     ∙ add-zero (sum m f)
 
 -- a row's words make up its pixels
-pub row-whole : (f : ℕ → ℕ) (w count : ℕ) → ((x : ℕ) → w ≤ x → f x ≡ 0) → Adds f 0 (rowWords w) count → count ≡ sum w f
+row-whole : (f : ℕ → ℕ) (w count : ℕ) → ((x : ℕ) → w ≤ x → f x ≡ 0) → Adds f 0 (rowWords w) count → count ≡ sum w f
 unfolding rowWords sum
 row-whole f w count e a = let b = sum-stop w (rowWords w * 64) f (omega arith) e in omega arith
 
@@ -73,10 +73,6 @@ pub row-words-le : (w : ℕ) → w ≤ 4096 → rowWords w ≤ 64
 unfolding rowWords
 row-words-le w l = omega arith
 
-pub row-words-some : (w : ℕ) → 0 < w → 1 ≤ rowWords w
-unfolding rowWords
-row-words-some w l = omega arith
-
 pub row-room : (n w h y room : ℕ) → n ≡ rowWords w → rowWords w * h ≤ room → y < h → y * n + rowWords w ≤ room
 row-room n w h y room e r l = let a = row-fits (rowWords w) h y l in let b = ap (λ (m : ℕ). y * m) e in omega arith
 
@@ -91,7 +87,7 @@ rowBit-lt words base w x =
 pub bitAt-in : (w h : ℕ) (words : List ℕ) (x y : ℕ) → y < h → bitAt w h words x y ≡ rowBit words (y * rowWords w) w x
 bitAt-in w h words x y l = bitAt-row w h words x y ∙ gate-lt y h (rowBit words (y * rowWords w) w x) l
 
-pub bitAt-lt : (w h : ℕ) (words : List ℕ) (x y : ℕ) → bitAt w h words x y < 2
+bitAt-lt : (w h : ℕ) (words : List ℕ) (x y : ℕ) → bitAt w h words x y < 2
 bitAt-lt w h words x y =
     let a = gate-le (ltb y h) (rowBit words (y * rowWords w) w x) in
     let b = rowBit-lt words (y * rowWords w) w x in

@@ -49,7 +49,6 @@ pub record Interior (full q k : ℕ) : Type 0 where
 
 -- a move as `differences` works it out: its words from `first` up to `end` are interior
 pub record Moves (m : Move) : Type 0 where
-  pub wide : 0 < m .w
   pub width : m .w ≤ maxSide
   pub row : m .n ≡ rowWords (m .w)
   pub bits : m .r < wordBits

@@ -43,13 +43,8 @@ returns c =
 
 difference-frame-requires : tie.Need-difference-frame-requires
 difference-frame-requires c κs =
-    let k = known (c .before .before .before .before .before .before .before) (sym (c .before .before .difference-refusal .ensures) ∙ c .before .if1 .left) in (
-      (omega arith, omega arith),
-      (
-        omega arith,
-        (record { threshold1 = omega arith; exclusion1 = omega arith; threshold2 = omega arith; exclusion2 = omega arith }, counts-ones),
-      ),
-    )
+    let k = known (c .before .before .before .before .before .before .before) (sym (c .before .before .difference-refusal .ensures) ∙ c .before .if1 .left) in
+    (omega arith, (omega arith, (record { threshold1 = omega arith; exclusion1 = omega arith; threshold2 = omega arith; exclusion2 = omega arith }, counts-ones)))
 
 returns-2 : tie.Need-returns-2
 returns-2 c =

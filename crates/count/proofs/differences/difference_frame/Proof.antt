@@ -27,7 +27,7 @@ biased-requires c κs = search needs
 move-by-requires : tie.Need-move-by-requires Inv-loop μ-loop
 move-by-requires c κs =
     let s = c .before .before .before .before .before in
-    (s .pre .0 .0, (s .pre .0 .1, rw (c .biased .ensures ∙ ap biasOf (toZ-ofZ (s .fits .dx))) (bias-lt (s .args .dx) (s .fits .dx))))
+    (s .pre .0, rw (c .biased .ensures ∙ ap biasOf (toZ-ofZ (s .fits .dx))) (bias-lt (s .args .dx) (s .fits .dx)))
 
 biased-requires-2 : tie.Need-biased-requires-2 Inv-loop μ-loop
 biased-requires-2 c κs = search needs

@@ -45,7 +45,7 @@ returns c =
         omega arith,
         moves
             (record { w = a .w; n = n .result; q = a .d / 64; r = a .d % 64; first = c .lower2 .result; end = e .result })
-            (a .d) (s .pre .0) (s .pre .1 .0) (n .ensures) refl
+            (a .d) (s .pre .0) (n .ensures) refl
             (rw (c .before .before .before .upper .ensures) at (e .ensures)) (rw (c .before .upper2 .ensures) at (c .lower2 .ensures)),
       ),
     )
