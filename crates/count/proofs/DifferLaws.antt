@@ -1,10 +1,10 @@
 -- The difference of two frames, row by row and word by word.
 use mathlib.Core.Path.{_≡_, refl, sym, ap, ap₂, _∙_}
 use mathlib.Core.Bool.{Bool, true, false, _&&_, not}
-use mathlib.Core.Logic.{_⊎_, inl, inr, ⊎-elim}
+use mathlib.Core.Logic.{_⊎_, ⊎-elim}
 use mathlib.Core.List.{List}
 use Prim.Native.Nat.{ℕ, zero, suc, _+_, _*_, _-_, _/_, _%_, _^_, _≤_, _<_, min, max}
-use native.Mathlib.Nat.{mod-lt}
+use native.Mathlib.Nat.{mod-lt, le-trans, lt-of-lt-of-le}
 use native.Mathlib.Omega.{arith}
 use lib.Dec.{ltb, leb, eqb}
 use lib.ListN.{length, getD}
@@ -17,26 +17,26 @@ use Rattle.rules.specs.Bitmaps.{bit, bitAt, rowWords}
 use Rattle.rules.specs.Planes.{within}
 use Rattle.rules.specs.Differences.{differ as differPixels, differAt, difference}
 use Rattle.rules.specs.Calls.{planesOf}
-use Rattle.rules.proofs.SumLaws.{order, gate-le, sum-ext, sum-zero, sum-more}
+use Rattle.rules.proofs.SumLaws.{order, gate-le, sum-ext, sum-zero}
 use Rattle.count.specs.declared.differences.Move.{Move}
 use Rattle.words.specs.Rows.{WordOf, rowBit, back, bias, biasWords, biasOf}
 use Rattle.words.proofs.BitLaws.{bit-lt, bit-and, bit-or, bit-xor, bit-shr, bit-above, bit-zero, bit-shl64-high, bit-shl64-low}
-use Rattle.words.proofs.MoveLaws.{gate-lt, gate-ge, row-bit, row-past, bitAt-row, back-at, back-under, within-back}
-use Rattle.count.specs.Rows.{Adds, frameDiffer, disagree, movedBit, rowDiffer, lineDiffer, Joined, Interior, Moves, RowsIn, FramesIn}
-use Rattle.count.proofs.RowLaws.{word-more, word-none, full-word, bitAt-in, bits-le, row-words-some, row-room}
+use Rattle.words.proofs.MoveLaws.{gate-lt, gate-ge, row-bit, row-past, back-at, back-under, within-back}
+use Rattle.count.specs.Rows.{Adds, frameDiffer, disagree, movedBit, rowDiffer, lineDiffer, movedDiffer, Joined, Interior, Moves, RowsIn, FramesIn}
+use Rattle.count.proofs.RowLaws.{word-more, word-none, full-word, bitAt-in, bits-le, row-room}
 
 -- ---- the four bits of a pixel
 
-pub disagree-lt : (t1 e1 t2 e2 : ℕ) → disagree t1 e1 t2 e2 < 2
+disagree-lt : (t1 e1 t2 e2 : ℕ) → disagree t1 e1 t2 e2 < 2
 unfolding disagree
 disagree-lt t1 e1 t2 e2 = let a = gate-le (eqb e1 1 && (eqb e2 1 && not (eqb t1 t2))) 1 in omega arith
 
 -- a pixel that one exclusion bit leaves out
-pub disagree-left : (t1 t2 e2 : ℕ) → disagree t1 0 t2 e2 ≡ 0
+disagree-left : (t1 t2 e2 : ℕ) → disagree t1 0 t2 e2 ≡ 0
 unfolding disagree
 disagree-left t1 t2 e2 = refl
 
-pub disagree-right : (t1 e1 t2 : ℕ) → disagree t1 e1 t2 0 ≡ 0
+disagree-right : (t1 e1 t2 : ℕ) → disagree t1 e1 t2 0 ≡ 0
 unfolding disagree
 disagree-right t1 e1 t2 = out (eqb e1 1)
   where
@@ -81,7 +81,7 @@ excluded t1 t2 on on l = absurd (omega arith)
 
 -- ---- the pixels of a word
 
-pub mixed-bit : (t1 e1 t2 e2 i : ℕ) → bit (bitAnd (bitXor t1 t2) (bitAnd e1 e2)) i ≡ disagree (bit t1 i) (bit e1 i) (bit t2 i) (bit e2 i)
+mixed-bit : (t1 e1 t2 e2 i : ℕ) → bit (bitAnd (bitXor t1 t2) (bitAnd e1 e2)) i ≡ disagree (bit t1 i) (bit e1 i) (bit t2 i) (bit e2 i)
 mixed-bit t1 e1 t2 e2 i =
     bit-and (bitXor t1 t2) (bitAnd e1 e2) i
     ∙ ap₂ (λ (a b : ℕ). min a b) (bit-xor t1 t2 i) (bit-and e1 e2 i)
@@ -167,28 +167,33 @@ joined-is high low r b l = record { above = λ i m n. joined-high high low r i b
 first-in : (q first end : ℕ) → first ≡ min end (max (q + 1) biasWords - biasWords) → (first ≤ end) × ((k : ℕ) → first ≤ k → k < end → q + 1 ≤ k + biasWords)
 first-in q first end e = (omega arith, λ k l m. omega arith)
 
-end-in : (n q end : ℕ) → 1 ≤ n → end ≡ min (n - 1) (max (q + n - 1) biasWords - biasWords)
-    → (end ≤ n) × ((k : ℕ) → k < end → (k + 2 ≤ n) × (k + biasWords + 2 ≤ q + n))
-end-in n q end l e = (omega arith, λ k m. (omega arith, omega arith))
+end-in : (full q end : ℕ) → end ≡ min full (max (q + full) biasWords - biasWords)
+    → (end ≤ full) × ((k : ℕ) → k < end → k + biasWords < q + full)
+end-in full q end e = (omega arith, λ k m. omega arith)
 
-pub moves : (m : Move) (d : ℕ) → 0 < m .w → m .w ≤ 4096 → m .n ≡ rowWords (m .w) → m .q ≡ d / 64 → m .r ≡ d % 64
-    → m .end ≡ min (m .n - 1) (max (m .q + m .n - 1) biasWords - biasWords) → m .first ≡ min (m .end) (max (m .q + 1) biasWords - biasWords)
+pub full-le : (w : ℕ) → w / 64 ≤ rowWords w
+unfolding rowWords
+full-le w = omega arith
+
+pub moves : (m : Move) (d : ℕ) → m .w ≤ 4096 → m .n ≡ rowWords (m .w) → m .r ≡ d % 64
+    → m .end ≡ min (m .w / 64) (max (m .q + m .w / 64) biasWords - biasWords) → m .first ≡ min (m .end) (max (m .q + 1) biasWords - biasWords)
     → Moves m
-moves m d a b e q r f g =
+moves m d b e r f g =
     let s = first-in (m .q) (m .first) (m .end) g in
-    let t = end-in (m .n) (m .q) (m .end) (rw (← e) at (row-words-some (m .w) a)) f in
+    let t = end-in (m .w / 64) (m .q) (m .end) f in
+    let u = t .0 in
+    let v = full-le (m .w) in
     record {
-      wide = a;
       width = b;
       row = e;
       bits = rw r (mod-lt d (omega arith));
       ordered = s .0;
-      ends = t .0;
-      inside = λ k l n. record { here = t .1 k n .0; low = s .1 k l n; high = t .1 k n .1 };
+      ends = le-trans u (rw (← e) at v);
+      inside = λ k l n. record { here = lt-of-lt-of-le n u; low = s .1 k l n; high = t .1 k n };
     }
 
 -- an interior word of a moved row
-pub interior-word : (words : List ℕ) (from w q r k j v : ℕ) → r < 64 → Interior (rowWords w) q k → j ≡ from + k + biasWords - q
+pub interior-word : (words : List ℕ) (from w q r k j v : ℕ) → r < 64 → Interior (w / 64) q k → j ≡ from + k + biasWords - q
     → Joined (getD words j 0) (getD words (j - 1) 0) r v → WordOf (movedBit words from w (q * 64 + r)) k v
 unfolding movedBit
 interior-word words from w q r k j v l n e a i m = ⊎-elim below above (order i r)
@@ -214,9 +219,12 @@ interior-word words from w q r k j v l n e a i m = ⊎-elim below above (order i
 
 -- ---- rows and frames
 
-pub rowDiffer-lt : (t1 e1 t2 e2 : List ℕ) (base from w d x : ℕ) → rowDiffer t1 e1 t2 e2 base from w d x < 2
+rowDiffer-lt : (t1 e1 t2 e2 : List ℕ) (base from w d x : ℕ) → rowDiffer t1 e1 t2 e2 base from w d x < 2
 unfolding rowDiffer
 rowDiffer-lt t1 e1 t2 e2 base from w d x = disagree-lt (rowBit t1 base w x) (rowBit e1 base w x) (movedBit t2 from w d x) (movedBit e2 from w d x)
+
+pub movedDiffer-lt : (t1 e1 t2 e2 : List ℕ) (base from : ℕ) (m : Move) (x : ℕ) → movedDiffer t1 e1 t2 e2 base from m x < 2
+movedDiffer-lt t1 e1 t2 e2 base from m x = rowDiffer-lt t1 e1 t2 e2 base from (m .w) (m .q * 64 + m .r) x
 
 pub rowDiffer-past : (t1 e1 t2 e2 : List ℕ) (base from w d x : ℕ) → w ≤ x → rowDiffer t1 e1 t2 e2 base from w d x ≡ 0
 unfolding rowDiffer

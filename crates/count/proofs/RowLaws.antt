@@ -6,14 +6,14 @@ use native.Mathlib.Nat.{add-zero}
 use native.Mathlib.Omega.{arith}
 use lib.Dec.{ltb}
 use lib.ListN.{getD}
-use Rattle.rules.specs.Sums.{sum, rowSum, sumPixels}
+use Rattle.rules.specs.Sums.{gate, sum, rowSum, sumPixels}
 use Rattle.rules.specs.Planes.{total}
 use Rattle.rules.specs.Bitmaps.{bit, bitAt, rowWords}
 use Rattle.rules.proofs.SumLaws.{gate-le, sum-ext, sum-zero, sum-le, sum-more, sum-split}
 use Rattle.rules.proofs.FrameLaws.{row-fits}
 use Rattle.words.specs.Rows.{WordOf, rowBit}
 use Rattle.words.proofs.BitLaws.{bit-lt, bit-zero}
-use Rattle.words.proofs.MoveLaws.{gate-lt, row-bit, row-past, bitAt-row}
+use Rattle.words.proofs.MoveLaws.{gate-lt, row-bit, row-past, row-last, bitAt-row}
 use Rattle.count.specs.Rows.{Adds}
 
 -- one word more of a row
@@ -38,7 +38,7 @@ pub word-none : (f : ℕ → ℕ) (k : ℕ) → WordOf f k 0 → Adds f k (k + 1
 word-none f k e = let a = word-more f k 0 e in let z = sum-zero 64 (bit 0) (λ i l. bit-zero i) in omega arith
 
 -- nothing is added past the last pixel
-pub sum-stop : (m n : ℕ) (f : ℕ → ℕ) → m ≤ n → ((i : ℕ) → m ≤ i → f i ≡ 0) → sum n f ≡ sum m f
+sum-stop : (m n : ℕ) (f : ℕ → ℕ) → m ≤ n → ((i : ℕ) → m ≤ i → f i ≡ 0) → sum n f ≡ sum m f
 sum-stop m n f l e =
     let d : n ≡ m + (n - m) = omega arith in
     ap (λ (k : ℕ). sum k f) d
@@ -47,7 +47,7 @@ sum-stop m n f l e =
     ∙ add-zero (sum m f)
 
 -- a row's words make up its pixels
-pub row-whole : (f : ℕ → ℕ) (w count : ℕ) → ((x : ℕ) → w ≤ x → f x ≡ 0) → Adds f 0 (rowWords w) count → count ≡ sum w f
+row-whole : (f : ℕ → ℕ) (w count : ℕ) → ((x : ℕ) → w ≤ x → f x ≡ 0) → Adds f 0 (rowWords w) count → count ≡ sum w f
 unfolding rowWords sum
 row-whole f w count e a = let b = sum-stop w (rowWords w * 64) f (omega arith) e in omega arith
 
@@ -61,6 +61,10 @@ ones-le v = bits-le 64 (bit v) (bit-lt v)
 pub adds-le : (f : ℕ → ℕ) (first end count : ℕ) → ((i : ℕ) → f i < 2) → Adds f first end count → count ≤ end * 64
 adds-le f first end count b a = let c = bits-le (end * 64) f b in omega arith
 
+pub adds-next-le : (f : ℕ → ℕ) (first k count more : ℕ) → ((i : ℕ) → f i < 2) → Adds f first k count → Adds f k (k + 1) more
+    → count + more ≤ (k + 1) * 64
+adds-next-le f first k count more b p q = adds-le f first (k + 1) (count + more) b (adds-more f first k (k + 1) count more p q)
+
 pub rows-le : (f : ℕ → ℕ) (y : ℕ) → ((z : ℕ) → f z ≤ 4096) → sum y f ≤ y * 4096
 rows-le f y b = sum-le y 4096 f (λ z l. b z)
 
@@ -68,10 +72,6 @@ rows-le f y b = sum-le y 4096 f (λ z l. b z)
 pub row-words-le : (w : ℕ) → w ≤ 4096 → rowWords w ≤ 64
 unfolding rowWords
 row-words-le w l = omega arith
-
-pub row-words-some : (w : ℕ) → 0 < w → 1 ≤ rowWords w
-unfolding rowWords
-row-words-some w l = omega arith
 
 pub row-room : (n w h y room : ℕ) → n ≡ rowWords w → rowWords w * h ≤ room → y < h → y * n + rowWords w ≤ room
 row-room n w h y room e r l = let a = row-fits (rowWords w) h y l in let b = ap (λ (m : ℕ). y * m) e in omega arith
@@ -87,7 +87,7 @@ rowBit-lt words base w x =
 pub bitAt-in : (w h : ℕ) (words : List ℕ) (x y : ℕ) → y < h → bitAt w h words x y ≡ rowBit words (y * rowWords w) w x
 bitAt-in w h words x y l = bitAt-row w h words x y ∙ gate-lt y h (rowBit words (y * rowWords w) w x) l
 
-pub bitAt-lt : (w h : ℕ) (words : List ℕ) (x y : ℕ) → bitAt w h words x y < 2
+bitAt-lt : (w h : ℕ) (words : List ℕ) (x y : ℕ) → bitAt w h words x y < 2
 bitAt-lt w h words x y =
     let a = gate-le (ltb y h) (rowBit words (y * rowWords w) w x) in
     let b = rowBit-lt words (y * rowWords w) w x in
@@ -98,8 +98,7 @@ pub total-row-le : (w h y : ℕ) (words : List ℕ) → w ≤ 4096 → rowSum w 
 total-row-le w h y words l = let a = bits-le w (λ x. bitAt w h words x y) (λ x. bitAt-lt w h words x y) in omega arith
 
 -- a full word of a row as it stands
-pub full-word : (words : List ℕ) (base w k : ℕ) → k + 2 ≤ rowWords w → WordOf (rowBit words base w) k (getD words (base + k) 0)
-unfolding rowWords
+pub full-word : (words : List ℕ) (base w k : ℕ) → (k + 1) * 64 ≤ w → WordOf (rowBit words base w) k (getD words (base + k) 0)
 full-word words base w k l i m = sym (row-bit words base w k i (omega arith) m)
 
 -- a row in three parts
@@ -108,23 +107,34 @@ pub row-parts : (f : ℕ → ℕ) (w n first end a b c : ℕ) → n ≡ rowWords
 row-parts f w n first end a b c e z p q r =
     row-whole f w (a + b + c) z (rw e at (adds-more f 0 end n (a + b) c (adds-more f 0 first end a b p q) r))
 
--- a row of which the last word is still to come
-pub row-last : (words : List ℕ) (base w last k count v ones : ℕ) → last + 1 ≡ rowWords w → k ≡ last
-    → Adds (rowBit words base w) 0 k count → WordOf (rowBit words base w) last v → ones ≡ sum 64 (bit v)
-    → count + ones ≡ sum w (rowBit words base w)
-row-last words base w last k count v ones n e a d o =
+-- a row of which the last word, with `rest` pixels, is still to come
+pub row-ends : (words : List ℕ) (base last rest k count v ones : ℕ) → 1 ≤ rest → rest ≤ 64 → k ≡ last
+    → Adds (rowBit words base (last * 64 + rest)) 0 k count
+    → ((i : ℕ) → bit v i ≡ gate (ltb i rest) (bit (getD words (base + last) 0) i)) → ones ≡ sum 64 (bit v)
+    → count + ones ≡ sum (last * 64 + rest) (rowBit words base (last * 64 + rest))
+unfolding rowWords
+row-ends words base last rest k count v ones l m e a d o =
+    let w : ℕ = last * 64 + rest in
     let f : ℕ → ℕ = rowBit words base w in
-    row-whole f w (count + ones) (row-past words base w) (rw n at (word-next f 0 last count v ones (rw e at a) d o))
+    let n : last + 1 ≡ rowWords w = omega arith in
+    let r : w - last * 64 ≡ rest = omega arith in
+    let b : WordOf f last v = λ i h. d i ∙ ap (λ (j : ℕ). gate (ltb i j) (bit (getD words (base + last) 0) i)) (sym r) ∙ row-last words base w last i (omega arith) h in
+    row-whole f w (count + ones) (row-past words base w) (rw n at (word-next f 0 last count v ones (rw e at a) b o))
+
+-- the pixels of a row's last word
+pub last-word : (w n : ℕ) → 0 < w → n ≡ rowWords w → (1 ≤ n) × (((n - 1) * 64 < w) × (w ≤ n * 64))
+unfolding rowWords
+last-word w n l e = (omega arith, (omega arith, omega arith))
 
 -- one row more of a frame
 pub rows-more : (f : ℕ → ℕ) (y count more : ℕ) → count ≡ sum y f → more ≡ f y → count + more ≡ sum (y + 1) f
 rows-more f y count more a e = let b = sum-more y f in omega arith
 
-pub total-row : (w h y base : ℕ) (words : List ℕ) → y < h → base ≡ y * rowWords w
-    → sum w (rowBit words base w) ≡ rowSum w (bitAt w h words) y
-total-row w h y base words l b =
-    sum-ext w (rowBit words base w) (λ x. bitAt w h words x y)
-    (λ x k. ap (λ (z : ℕ). rowBit words z w x) b ∙ sym (bitAt-in w h words x y l))
+pub total-row : (w w′ h y base : ℕ) (words : List ℕ) → y < h → w′ ≡ w → base ≡ y * rowWords w
+    → sum w′ (rowBit words base w′) ≡ rowSum w (bitAt w h words) y
+total-row w w′ h y base words l e b =
+    (λ j. sum (e j) (rowBit words (b j) (e j)))
+    ∙ sum-ext w (rowBit words (y * rowWords w) w) (λ x. bitAt w h words x y) (λ x k. sym (bitAt-in w h words x y l))
 
 pub total-whole : (w h : ℕ) (words : List ℕ) → sum h (rowSum w (bitAt w h words)) ≡ total w h (bitAt w h words)
 unfolding total sumPixels

@@ -2,7 +2,7 @@
 use mathlib.Core.Path.{_≡_}
 use mathlib.Core.Bool.{_&&_, not}
 use mathlib.Core.List.{List}
-use Prim.Native.Nat.{ℕ, _+_, _*_, _-_, _≤_, _<_}
+use Prim.Native.Nat.{ℕ, _+_, _*_, _-_, _/_, _≤_, _<_}
 use lib.Dec.{ltb, eqb}
 use lib.ListN.{length}
 use lib.IntN.{ℤ}
@@ -41,21 +41,20 @@ unfoldable pub lineDiffer : List ℕ → List ℕ → List ℕ → List ℕ → 
 lineDiffer t1 e1 t2 e2 w h d up y =
     back (λ z. gate (ltb z h) (sum w (rowDiffer t1 e1 t2 e2 (y * rowWords w) (z * rowWords w) w d))) up (bias + y)
 
--- word k of a moved row of n words is made of two words of the row, and none of the three is the row's last
-pub record Interior (n q k : ℕ) : Type 0 where
-  pub here : k + 2 ≤ n
+-- word k of a moved row is made of two words of the row, and each of the three is one of the row's full words
+pub record Interior (full q k : ℕ) : Type 0 where
+  pub here : k < full
   pub low : q + 1 ≤ k + biasWords
-  pub high : k + biasWords + 2 ≤ q + n
+  pub high : k + biasWords < q + full
 
 -- a move as `differences` works it out: its words from `first` up to `end` are interior
 pub record Moves (m : Move) : Type 0 where
-  pub wide : 0 < m .w
   pub width : m .w ≤ maxSide
   pub row : m .n ≡ rowWords (m .w)
   pub bits : m .r < wordBits
   pub ordered : m .first ≤ m .end
   pub ends : m .end ≤ m .n
-  pub inside : (k : ℕ) → m .first ≤ k → k < m .end → Interior (m .n) (m .q) k
+  pub inside : (k : ℕ) → m .first ≤ k → k < m .end → Interior (m .w / wordBits) (m .q) k
 
 -- the row at `base` of the first frame against the row at `from` of the second, moved
 abbrev pub movedDiffer : List ℕ → List ℕ → List ℕ → List ℕ → ℕ → ℕ → Move → ℕ → ℕ

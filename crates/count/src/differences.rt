@@ -7,14 +7,12 @@ use words::biased;
 use words::moved_word;
 use words::row_word;
 ghost use mathlib.Core.Path.{_≡_};
-ghost use Prim.Native.Nat.{ℕ, _+_, _*_, _-_, _<_, _≤_, min, max};
+ghost use Prim.Native.Nat.{_+_, _*_, _-_, _<_, _≤_, min, max};
 ghost use lib.ListN.{length, getD};
 ghost use Rattle.rules.specs.Limits.{maxSide, wordBits};
 ghost use Rattle.rules.specs.Sums.{sum};
-ghost use Rattle.rules.specs.Bitmaps.{rowWords};
 ghost use Rattle.rules.specs.Differences.{difference};
 ghost use Rattle.rules.specs.Calls.{planesOf};
-ghost use Rattle.words.specs.Rows.{bias, biasWords};
 ghost use Rattle.count.specs.Ones.{CountsOnes};
 ghost use Rattle.count.specs.Rows.{Adds, movedDiffer, lineDiffer, Moves, RowsIn, FramesIn, Joined};
 
@@ -27,7 +25,7 @@ const BIAS: usize = 2147483648;
 const BIAS_WORDS: usize = 33554432;
 
 // A move of rows of w pixels, in n words, by q words, counted from the bias, and r bits. A word from
-// `first` up to `end` is made of two words of the row, and none of the three is the row's last: it
+// `first` up to `end` is interior: it is made of two words of the row, all three of them full, and so
 // needs no test and no mask.
 pub struct Move {
     pub w: usize,
@@ -51,14 +49,14 @@ fn upper(a: usize, b: usize) -> usize
 }
 
 fn move_by(w: usize, d: usize) -> Move
-    requires wide { ⌜ 0 < w ⌝ }
     requires width { ⌜ w ≤ maxSide ⌝ }
     requires near { ⌜ d < 4294967296 ⌝ }
     ensures { λ m. ⌜ (m .w ≡ w) × ((m .q * wordBits + m .r ≡ d) × Moves m) ⌝ }
 {
     let n = row_words(w);
     let q = d / WORD_BITS;
-    let end = lower(n - 1, upper(q + n - 1, BIAS_WORDS) - BIAS_WORDS);
+    let full = w / WORD_BITS;
+    let end = lower(full, upper(q + full, BIAS_WORDS) - BIAS_WORDS);
     let first = lower(end, upper(q + 1, BIAS_WORDS) - BIAS_WORDS);
     Move {
         w,
@@ -254,7 +252,7 @@ pub fn difference_frame(
     e2: &[u64],
     ones: &[u8; 256],
 ) -> u32
-    requires width { ⌜ (0 < w) × (w ≤ maxSide) ⌝ }
+    requires width { ⌜ w ≤ maxSide ⌝ }
     requires height { ⌜ h ≤ maxSide ⌝ }
     requires frames { ⌜ FramesIn (now t1) (now e1) (now t2) (now e2) w h ⌝ }
     requires table { ⌜ CountsOnes (now ones) ⌝ }

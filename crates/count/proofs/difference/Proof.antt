@@ -1,15 +1,14 @@
 -- The answer by the refusal number; an accepted call knows its sizes, and the constant is a table of counts.
-use mathlib.Core.Path.{_≡_, refl, sym, _∙_}
+use mathlib.Core.Path.{_≡_, sym, _∙_}
 use Prim.Native.Nat.{ℕ}
 use native.Mathlib.Omega.{arith}
-use borrow.Author.Needs.{needs}
 use lib.ListN.{length}
 use mir.Facts.{toZ-ofZ}
+use borrow.Author.Needs.{needs}
 use Rattle.rules.specs.Refusals.{differenceRefusal}
 use Rattle.rules.specs.Differences.{difference}
 use Rattle.rules.specs.Calls.{planesOf}
 use Rattle.rules.proofs.RefusalLaws.{DifferenceOk, difference-ok}
-use Rattle.count.specs.Rows.{FramesIn}
 use Rattle.count.proofs.OnesLaws.{counts-ones}
 use Rattle.count.proofs.AnswerLaws.{refused, accepted}
 use Rattle.count.proofs.difference.Statement.{statement}
@@ -44,13 +43,8 @@ returns c =
 
 difference-frame-requires : tie.Need-difference-frame-requires
 difference-frame-requires c κs =
-    let k = known (c .before .before .before .before .before .before .before) (sym (c .before .before .difference-refusal .ensures) ∙ c .before .if1 .left) in (
-      (omega arith, omega arith),
-      (
-        omega arith,
-        (record { threshold1 = omega arith; exclusion1 = omega arith; threshold2 = omega arith; exclusion2 = omega arith }, counts-ones),
-      ),
-    )
+    let k = known (c .before .before .before .before .before .before .before) (sym (c .before .before .difference-refusal .ensures) ∙ c .before .if1 .left) in
+    (omega arith, (omega arith, (record { threshold1 = omega arith; exclusion1 = omega arith; threshold2 = omega arith; exclusion2 = omega arith }, counts-ones)))
 
 returns-2 : tie.Need-returns-2
 returns-2 c =

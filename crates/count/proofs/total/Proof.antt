@@ -1,8 +1,8 @@
 -- The answer by the refusal number; an accepted call knows its sizes, and the constant is a table of counts.
 use mathlib.Core.Path.{sym, _∙_}
 use native.Mathlib.Omega.{arith}
-use borrow.Author.Needs.{needs}
 use lib.ListN.{length}
+use borrow.Author.Needs.{needs}
 use Rattle.rules.specs.Bitmaps.{bitAt}
 use Rattle.rules.specs.Planes.{total}
 use Rattle.rules.specs.Refusals.{totalRefusal}
@@ -11,10 +11,6 @@ use Rattle.count.proofs.OnesLaws.{counts-ones}
 use Rattle.count.proofs.AnswerLaws.{refused, accepted}
 use Rattle.count.proofs.total.Statement.{statement}
 use Rattle.count.proofs.total.Tie as tie
-use Rattle.count.proofs.total.Reads as reads
-use Rattle.count.proofs.total.Lts as lts
-use Rattle.count.proofs.totals.total_frame.Reads as total-frame-reads
-use Rattle.refusals.proofs.total_refusal.Reads as total-refusal-reads
 
 total-refusal-requires : tie.Need-total-refusal-requires
 total-refusal-requires c κs = search needs
@@ -30,7 +26,7 @@ total-frame-requires : tie.Need-total-frame-requires
 total-frame-requires c κs =
     let a = c .before .before .before .before .args in
     let k = total-ok (a .w) (a .h) (length (a .bitmap .now)) (sym (c .before .before .total-refusal .ensures) ∙ c .before .if1 .left) in
-    (omega arith, (omega arith, (omega arith, (omega arith, counts-ones))))
+    ((omega arith, omega arith), (omega arith, (omega arith, counts-ones)))
 
 returns-2 : tie.Need-returns-2
 returns-2 c =

@@ -1,37 +1,31 @@
+-- The invariant: the count is what the words passed add to the row's sum.
 use mathlib.Core.Path.{_≡_}
-use Prim.Native.Nat.{ℕ, _+_, _*_, _-_, _≤_, _<_}
-use Rattle.count.specs.Rows.{Adds, movedDiffer}
-use Rattle.count.proofs.RowLaws.{adds-none, adds-more, adds-le, row-words-le}
-use Rattle.count.proofs.DifferLaws.{rowDiffer-lt}
+use Prim.Native.Nat.{ℕ, _+_, _-_, _≤_}
 use native.Mathlib.Omega.{arith}
 use borrow.Author.Needs.{needs}
+use Rattle.count.specs.Rows.{Adds, movedDiffer}
+use Rattle.count.proofs.RowLaws.{adds-none, adds-more, adds-next-le, row-words-le}
+use Rattle.count.proofs.DifferLaws.{movedDiffer-lt}
 use Rattle.count.proofs.differences.careful.Statement.{statement}
 use Rattle.count.proofs.differences.careful.Tie as tie
-use Rattle.count.proofs.differences.careful.Reads as reads
-use Rattle.count.proofs.differences.careful.Lts as lts
-use Rattle.count.proofs.differences.careful_word.Reads as careful-word-reads
 
 abbrev Inv-loop : tie.InvT-loop
-Inv-loop t1 e1 t2 e2 base from m first end ones count₀ k₀ count k =
-    (first ≤ k) × ((k ≤ end) × Adds (movedDiffer t1 e1 t2 e2 base from m) first k count)
+Inv-loop t1 e1 t2 e2 base from m first end ones count₀ k₀ count k = (first ≤ k) × ((k ≤ end) × Adds (movedDiffer t1 e1 t2 e2 base from m) first k count)
 
 abbrev μ-loop : tie.MeasureT-loop
 μ-loop t1 e1 t2 e2 base from m first end ones count₀ k₀ count k = end - k
 
--- src/differences.rt:183:5
-loop-holds : tie.Need-loop-holds Inv-loop μ-loop
-loop-holds c =
-    let s = c .before .before .before .before in
-    let a = s .args in
-    (omega arith, (s .pre .1 .0 .0, adds-none (movedDiffer (a .t1 .now) (a .e1 .now) (a .t2 .now) (a .e2 .now) (a .base) (a .from) (a .m)) (a .first)))
+abbrev row : tie.Start Inv-loop μ-loop → ℕ → ℕ
+row c = let a = c .args in movedDiffer (a .t1 .now) (a .e1 .now) (a .t2 .now) (a .e2 .now) (a .base) (a .from) (a .m)
 
--- src/differences.rt:184:18
+loop-holds : tie.Need-loop-holds Inv-loop μ-loop
+loop-holds c = let s = c .before .before .before .before in (omega arith, (s .pre .1 .0 .0, adds-none (row s) (s .args .first)))
+
 careful-word-requires : tie.Need-careful-word-requires Inv-loop μ-loop
 careful-word-requires c κs =
     let s = c .before .before .before .before .before .before in
     (s .pre .0, (omega arith, (s .pre .1 .1 .0, s .pre .1 .1 .1)))
 
--- src/differences.rt:184:9
 add-count : tie.Need-add-count Inv-loop μ-loop
 add-count c =
     let s = c .before .before .before .before .before .before .before in
@@ -41,32 +35,21 @@ add-count c =
       arith,
       s,
       row-words-le (a .m .w) (s .pre .0 .width),
-      adds-le (movedDiffer (a .t1 .now) (a .e1 .now) (a .t2 .now) (a .e2 .now) (a .base) (a .from) (a .m)) (a .first) (l .k + 1) (l .count + c .careful-word .result)
-          (rowDiffer-lt (a .t1 .now) (a .e1 .now) (a .t2 .now) (a .e2 .now) (a .base) (a .from) (a .m .w) (a .m .q * 64 + a .m .r))
-          (adds-more (movedDiffer (a .t1 .now) (a .e1 .now) (a .t2 .now) (a .e2 .now) (a .base) (a .from) (a .m)) (a .first) (l .k) (l .k + 1) (l .count) (c .careful-word .result) (l .inv .1 .1) (c .careful-word .ensures)),
+      adds-next-le (row s) (s .args .first) (l .k) (l .count) (c .careful-word .result) (movedDiffer-lt (a .t1 .now) (a .e1 .now) (a .t2 .now) (a .e2 .now) (a .base) (a .from) (a .m)) (l .inv .1 .1) (c .careful-word .ensures),
     )
 
--- src/differences.rt:185:9
 add-k : tie.Need-add-k Inv-loop μ-loop
 add-k c = search needs
 
--- src/differences.rt:183:5
 loop-less : tie.Need-loop-less Inv-loop μ-loop
 loop-less c = search needs
 
--- src/differences.rt:183:5
 loop-again : tie.Need-loop-again Inv-loop μ-loop
 loop-again c =
-    let a = c .before .before .before .before .before .before .before .args in
-    let l = c .before .before .loop in (
-      omega arith,
-      (
-        omega arith,
-        adds-more (movedDiffer (a .t1 .now) (a .e1 .now) (a .t2 .now) (a .e2 .now) (a .base) (a .from) (a .m)) (a .first) (l .k) (l .k + 1) (l .count) (c .careful-word .result) (l .inv .1 .1) (c .careful-word .ensures),
-      ),
-    )
+    let s = c .before .before .before .before .before .before .before in
+    let l = c .before .before .loop in
+    (omega arith, (omega arith, adds-more (row s) (s .args .first) (l .k) (l .k + 1) (l .count) (c .careful-word .result) (l .inv .1 .1) (c .careful-word .ensures)))
 
--- src/differences.rt:163:1
 returns : tie.Need-returns Inv-loop μ-loop
 returns c =
     let l = c .before .loop in

@@ -1,32 +1,24 @@
-use Prim.Native.Nat.{ℕ, _+_, _*_, _<_}
-use Rattle.count.proofs.RowLaws.{row-words-le}
-use Rattle.count.proofs.DifferLaws.{none-adds, differ-adds, moved-word}
+-- The masked words are the rows' pixels; without a kept pixel nothing differs.
+use Prim.Native.Nat.{_+_, _*_, _<_}
 use native.Mathlib.Omega.{arith}
 use borrow.Author.Needs.{needs}
+use Rattle.count.proofs.RowLaws.{row-words-le}
+use Rattle.count.proofs.DifferLaws.{none-adds, differ-adds, moved-word}
 use Rattle.count.proofs.differences.careful_word.Statement.{statement}
 use Rattle.count.proofs.differences.careful_word.Tie as tie
-use Rattle.count.proofs.differences.careful_word.Reads as reads
-use Rattle.count.proofs.differences.careful_word.Lts as lts
-use Rattle.count.proofs.ones.word_ones.Reads as word-ones-reads
-use Rattle.words.proofs.moved_word.Reads as moved-word-reads
-use Rattle.words.proofs.row_word.Reads as row-word-reads
 
 near : (c : tie.Start) → (c .args .k < 4294967296) × (c .args .k + 33554432 < 4294967296)
 near c = let n = row-words-le (c .args .m .w) (c .pre .0 .width) in (omega arith, omega arith)
 
--- src/differences.rt:128:14
 add-at : tie.Need-add-at
 add-at c = search needs
 
--- src/differences.rt:129:16
 row-word-requires : tie.Need-row-word-requires
 row-word-requires c κs = let s = c .before .before .before .before in (s .pre .1 .1 .0 .exclusion1, near s .0)
 
--- src/differences.rt:129:45
 moved-word-requires : tie.Need-moved-word-requires
 moved-word-requires c κs = let s = c .before .before .before .before .before in (s .pre .1 .1 .0 .exclusion2, (near s .1, s .pre .0 .bits))
 
--- src/differences.rt:131:9
 returns : tie.Need-returns
 returns c =
     let a = c .before .before .before .before .before .before .before .args in
@@ -36,28 +28,22 @@ returns c =
     none-adds (a .t1 .now) (a .e1 .now) (a .t2 .now) (a .e2 .now) (a .base) (a .from) (a .m .w) d (a .k) (r .result) (v .result) (r .ensures)
     (moved-word (a .e2 .now) (a .from) (a .m .w) d (a .k) (v .result) (v .ensures)) (c .if1 .taken)
 
--- src/differences.rt:133:19
 add-word-ones : tie.Need-add-word-ones
 add-word-ones c = search needs
 
--- src/differences.rt:133:16
 mul-word-ones : tie.Need-mul-word-ones
 mul-word-ones c = search needs
 
--- src/differences.rt:133:16
 shared-slice-read-word-ones : tie.Need-shared-slice-read-word-ones
 shared-slice-read-word-ones c = search needs
 
--- src/differences.rt:133:31
 moved-word-requires-2 : tie.Need-moved-word-requires-2
 moved-word-requires-2 c κs =
     let s = c .before .before .before .before .before .before .before .before in (s .pre .1 .1 .0 .threshold2, (near s .1, s .pre .0 .bits))
 
--- src/differences.rt:133:5
 word-ones-requires : tie.Need-word-ones-requires
 word-ones-requires c κs = search needs
 
--- src/differences.rt:111:1
 returns-2 : tie.Need-returns-2
 returns-2 c =
     let b = c .before .before .before .before in

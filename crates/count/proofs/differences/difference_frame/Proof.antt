@@ -1,8 +1,9 @@
+-- The invariant: the count is the sum of the rows passed.
 use mathlib.Core.Path.{_≡_, sym, ap, _∙_}
 use Prim.Native.Nat.{ℕ, _+_, _*_, _-_, _≤_}
 use native.Mathlib.Omega.{arith}
-use borrow.Author.Needs.{needs}
 use mir.Facts.{toZ-ofZ}
+use borrow.Author.Needs.{needs}
 use Rattle.rules.specs.Sums.{sum}
 use Rattle.rules.proofs.SumLaws.{sum-none}
 use Rattle.words.specs.Rows.{biasOf}
@@ -12,11 +13,6 @@ use Rattle.count.proofs.RowLaws.{rows-le, rows-more}
 use Rattle.count.proofs.DifferLaws.{line-le, frame-whole}
 use Rattle.count.proofs.differences.difference_frame.Statement.{statement}
 use Rattle.count.proofs.differences.difference_frame.Tie as tie
-use Rattle.count.proofs.differences.difference_frame.Reads as reads
-use Rattle.count.proofs.differences.difference_frame.Lts as lts
-use Rattle.count.proofs.differences.line_difference.Reads as line-difference-reads
-use Rattle.count.proofs.differences.move_by.Reads as move-by-reads
-use Rattle.words.proofs.biased.Reads as biased-reads
 
 abbrev Inv-loop : tie.InvT-loop
 Inv-loop w h dx dy t1 e1 t2 e2 ones m up count₀ y₀ count y =
@@ -25,35 +21,29 @@ Inv-loop w h dx dy t1 e1 t2 e2 ones m up count₀ y₀ count y =
 abbrev μ-loop : tie.MeasureT-loop
 μ-loop w h dx dy t1 e1 t2 e2 ones m up count₀ y₀ count y = h - y
 
--- src/differences.rt:261:24
 biased-requires : tie.Need-biased-requires Inv-loop μ-loop
 biased-requires c κs = search needs
 
--- src/differences.rt:261:9
 move-by-requires : tie.Need-move-by-requires Inv-loop μ-loop
 move-by-requires c κs =
     let s = c .before .before .before .before .before in
-    (s .pre .0 .0, (s .pre .0 .1, rw (c .biased .ensures ∙ ap biasOf (toZ-ofZ (s .fits .dx))) (bias-lt (s .args .dx) (s .fits .dx))))
+    (s .pre .0, rw (c .biased .ensures ∙ ap biasOf (toZ-ofZ (s .fits .dx))) (bias-lt (s .args .dx) (s .fits .dx)))
 
--- src/differences.rt:262:9
 biased-requires-2 : tie.Need-biased-requires-2 Inv-loop μ-loop
 biased-requires-2 c κs = search needs
 
--- src/differences.rt:265:5
 loop-holds : tie.Need-loop-holds Inv-loop μ-loop
 loop-holds c =
     let a = c .before .before .before .before .before .before .before .args in
     let m = c .before .move-by .result in
     (omega arith, sym (sum-none (lineDiffer (a .t1 .now) (a .e1 .now) (a .t2 .now) (a .e2 .now) (m .w) (a .h) (m .q * 64 + m .r) (c .biased2 .result))))
 
--- src/differences.rt:266:18
 line-difference-requires : tie.Need-line-difference-requires Inv-loop μ-loop
 line-difference-requires c κs =
     let s = c .before .before .before .before .before .before .before .before .before in
     let m = c .before .before .before .move-by in
     (m .ensures .1 .1, ((c .loop-test .taken, s .pre .1 .0), (rw (m .ensures .0) (s .pre .1 .1 .0), s .pre .1 .1 .1)))
 
--- src/differences.rt:266:9
 add-count : tie.Need-add-count Inv-loop μ-loop
 add-count c =
     let s = c .before .before .before .before .before .before .before .before .before .before in
@@ -65,15 +55,12 @@ add-count c =
     let small : (y : ℕ) → lineDiffer (a .t1 .now) (a .e1 .now) (a .t2 .now) (a .e2 .now) (m .result .w) (a .h) d up y ≤ 4096 = λ y. line-le (a .t1 .now) (a .e1 .now) (a .t2 .now) (a .e2 .now) (m .result .w) (a .h) d up y (m .ensures .1 .1 .width) in
     omega (arith, s .pre, rows-le (lineDiffer (a .t1 .now) (a .e1 .now) (a .t2 .now) (a .e2 .now) (m .result .w) (a .h) d up) (l .y) small, small (l .y))
 
--- src/differences.rt:267:9
 add-y : tie.Need-add-y Inv-loop μ-loop
 add-y c = search needs
 
--- src/differences.rt:265:5
 loop-less : tie.Need-loop-less Inv-loop μ-loop
 loop-less c = search needs
 
--- src/differences.rt:265:5
 loop-again : tie.Need-loop-again Inv-loop μ-loop
 loop-again c =
     let a = c .before .before .before .before .before .before .before .before .before .before .args in
@@ -84,7 +71,6 @@ loop-again c =
           (c .line-difference .result) (l .inv .1) (c .line-difference .ensures),
     )
 
--- src/differences.rt:244:1
 returns : tie.Need-returns Inv-loop μ-loop
 returns c =
     let s = c .before .before .before .before .before .before .before .before .before in

@@ -1,57 +1,48 @@
+-- The four words as they stand are the rows' pixels, since all are full; without a kept pixel nothing differs.
 use mathlib.Core.Path.{refl}
+use Prim.Native.Nat.{ℕ, _+_, _*_, _-_, _/_, _≤_, _<_}
+use native.Mathlib.Omega.{arith}
 use lib.ListN.{length, getD}
+use borrow.Author.Needs.{needs}
 use Rattle.count.specs.Rows.{Interior}
 use Rattle.count.proofs.RowLaws.{full-word}
-use Prim.Native.Nat.{ℕ, _+_, _*_, _-_, _≤_, _<_}
-use Rattle.rules.specs.Bitmaps.{rowWords}
-use Rattle.count.proofs.DifferLaws.{none-adds, differ-adds, interior-word}
-use native.Mathlib.Omega.{arith}
-use borrow.Author.Needs.{needs}
+use Rattle.count.proofs.DifferLaws.{full-le, none-adds, differ-adds, interior-word}
 use Rattle.count.proofs.differences.interior_word.Statement.{statement}
 use Rattle.count.proofs.differences.interior_word.Tie as tie
-use Rattle.count.proofs.differences.interior_word.Reads as reads
-use Rattle.count.proofs.differences.interior_word.Lts as lts
-use Rattle.count.proofs.differences.joined_word.Reads as joined-word-reads
-use Rattle.count.proofs.ones.word_ones.Reads as word-ones-reads
 
 abbrev at : tie.Start → ℕ
 at c = c .args .from + c .args .k + 33554432 - c .args .m .q
 
-inside : (c : tie.Start) → Interior (rowWords (c .args .m .w)) (c .args .m .q) (c .args .k)
-inside c = rw (c .pre .0 .row) at (c .pre .0 .inside (c .args .k) (c .pre .1 .0 .0) (c .pre .1 .0 .1))
+inside : (c : tie.Start) → Interior (c .args .m .w / 64) (c .args .m .q) (c .args .k)
+inside c = c .pre .0 .inside (c .args .k) (c .pre .1 .0 .0) (c .pre .1 .0 .1)
+
+full : (c : tie.Start) → (c .args .k + 1) * 64 ≤ c .args .m .w
+full c = let i = inside c in omega arith
 
 place : (c : tie.Start) → (1 ≤ at c) × ((at c < length (c .args .t2 .now)) × (at c < length (c .args .e2 .now)))
-place c = let i = inside c in (omega arith, (omega arith, omega arith))
+place c = let i = inside c in let f = full-le (c .args .m .w) in (omega arith, (omega arith, omega arith))
 
--- src/differences.rt:102:13
 add-i : tie.Need-add-i
 add-i c = search needs
 
--- src/differences.rt:103:13
 add-j : tie.Need-add-j
 add-j c = search needs
 
--- src/differences.rt:103:13
 add-j-2 : tie.Need-add-j-2
 add-j-2 c = search needs
 
--- src/differences.rt:103:13
 sub-j : tie.Need-sub-j
 sub-j c = omega (arith, inside (c .before .before .before .before .before))
 
--- src/differences.rt:104:16
 mul-kept : tie.Need-mul-kept
 mul-kept c = search needs
 
--- src/differences.rt:104:16
 shared-slice-read-kept : tie.Need-shared-slice-read-kept
 shared-slice-read-kept c = search needs
 
--- src/differences.rt:104:24
 joined-word-requires : tie.Need-joined-word-requires
 joined-word-requires c κs = let s = c .before .before .before .before .before .before in (s .pre .0 .bits, (place s .0, place s .1 .1))
 
--- src/differences.rt:106:9
 returns : tie.Need-returns
 returns c =
     let s = c .before .before .before .before .before .before .before .before in
@@ -59,27 +50,22 @@ returns c =
     let d = a .m .q * 64 + a .m .r in
     let v = c .before .joined-word in
     none-adds (a .t1 .now) (a .e1 .now) (a .t2 .now) (a .e2 .now) (a .base) (a .from) (a .m .w) d (a .k) (getD (a .e1 .now) (a .base + a .k) 0) (v .result)
-    (full-word (a .e1 .now) (a .base) (a .m .w) (a .k) (inside s .here))
+    (full-word (a .e1 .now) (a .base) (a .m .w) (a .k) (full s))
     (interior-word (a .e2 .now) (a .from) (a .m .w) (a .m .q) (a .m .r) (a .k) (at s) (v .result) (s .pre .0 .bits) (inside s) refl (v .ensures))
     (c .if1 .taken)
 
--- src/differences.rt:108:16
 mul-word-ones : tie.Need-mul-word-ones
 mul-word-ones c = search needs
 
--- src/differences.rt:108:16
 shared-slice-read-word-ones : tie.Need-shared-slice-read-word-ones
 shared-slice-read-word-ones c = search needs
 
--- src/differences.rt:108:24
 joined-word-requires-2 : tie.Need-joined-word-requires-2
 joined-word-requires-2 c κs = let s = c .before .before .before .before .before .before .before .before .before in (s .pre .0 .bits, (place s .0, place s .1 .0))
 
--- src/differences.rt:108:5
 word-ones-requires : tie.Need-word-ones-requires
 word-ones-requires c κs = search needs
 
--- src/differences.rt:85:1
 returns-2 : tie.Need-returns-2
 returns-2 c =
     let b = c .before .before .before .before in
@@ -89,7 +75,7 @@ returns-2 c =
     let v = b .joined-word in
     let u = c .before .joined-word2 in
     differ-adds (a .t1 .now) (a .e1 .now) (a .t2 .now) (a .e2 .now) (a .base) (a .from) (a .m .w) d (a .k) (getD (a .e1 .now) (a .base + a .k) 0) (v .result)
-    (full-word (a .e1 .now) (a .base) (a .m .w) (a .k) (inside s .here))
+    (full-word (a .e1 .now) (a .base) (a .m .w) (a .k) (full s))
     (interior-word (a .e2 .now) (a .from) (a .m .w) (a .m .q) (a .m .r) (a .k) (at s) (v .result) (s .pre .0 .bits) (inside s) refl (v .ensures))
     (u .result) (c .word-ones .result)
     (interior-word (a .t2 .now) (a .from) (a .m .w) (a .m .q) (a .m .r) (a .k) (at s) (u .result) (s .pre .0 .bits) (inside s) refl (u .ensures))

@@ -1,46 +1,35 @@
+-- The bits of two neighbouring words, moved.
 use Prim.Native.Nat.{_-_}
 use lib.ListN.{getD}
-use Rattle.count.proofs.DifferLaws.{joined-is}
-use native.Mathlib.Omega.{arith}
 use borrow.Author.Needs.{needs}
+use Rattle.count.proofs.DifferLaws.{joined-is}
 use Rattle.count.proofs.differences.joined_word.Statement.{statement}
 use Rattle.count.proofs.differences.joined_word.Tie as tie
-use Rattle.count.proofs.differences.joined_word.Reads as reads
-use Rattle.count.proofs.differences.joined_word.Lts as lts
 
--- src/differences.rt:81:6
 mul-result : tie.Need-mul-result
 mul-result c = search needs
 
--- src/differences.rt:81:6
 shared-slice-read-result : tie.Need-shared-slice-read-result
 shared-slice-read-result c = search needs
 
--- src/differences.rt:81:6
 shl-result : tie.Need-shl-result
 shl-result c = search needs
 
--- src/differences.rt:81:27
 sub-result : tie.Need-sub-result
 sub-result c = search needs
 
--- src/differences.rt:81:23
 mul-result-2 : tie.Need-mul-result-2
 mul-result-2 c = search needs
 
--- src/differences.rt:81:23
 shared-slice-read-result-2 : tie.Need-shared-slice-read-result-2
 shared-slice-read-result-2 c = search needs
 
--- src/differences.rt:81:44
 sub-result-2 : tie.Need-sub-result-2
 sub-result-2 c = search needs
 
--- src/differences.rt:81:22
 shr-result : tie.Need-shr-result
 shr-result c = search needs
 
--- src/differences.rt:76:1
 returns : tie.Need-returns
 returns c =
     let s = c .before .before in
