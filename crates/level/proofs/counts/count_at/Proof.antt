@@ -54,7 +54,7 @@ difference-frame-requires : tie.Need-difference-frame-requires
 difference-frame-requires c κs =
     let s = c .before .before .before .before .before in
     let p = s .pre in
-    ((p .0 .wide, p .0 .width), (p .0 .height, (parts-in (s .args .w) (s .args .h) (c .before .before .before .bitmap-words .result) (s .args .words .now) (c .before .before .before .bitmap-words .ensures) (p .1 .0), p .1 .1)))
+    (p .0 .width, (p .0 .height, (parts-in (s .args .w) (s .args .h) (c .before .before .before .bitmap-words .result) (s .args .words .now) (c .before .before .before .bitmap-words .ensures) (p .1 .0), p .1 .1)))
 
 returns : tie.Need-returns
 returns c =
