@@ -1,6 +1,6 @@
 -- The step of the recursion over plain lists: what the coarser level reads, what it leaves, and how the counts go together.
 use mathlib.Core.Path.{_≡_, refl, sym, ap, ap₂, _∙_}
-use mathlib.Core.List.{List, [], _∷_, _++_, map}
+use mathlib.Core.List.{List, _++_, map}
 use Prim.Native.Nat.{ℕ, zero, suc, _+_, _*_, _-_, _/_, _^_, _≤_, _<_}
 use native.Mathlib.Nat.{mul-comm, mul-le-mul, pow-suc}
 use native.Mathlib.Omega.{arith}

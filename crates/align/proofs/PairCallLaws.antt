@@ -1,7 +1,7 @@
 -- The offered call: what the two conversions put into the lent memory, and the answer as its definition says it.
-use mathlib.Core.Path.{_≡_, refl, sym, ap, _∙_}
+use mathlib.Core.Path.{_≡_, sym, ap, _∙_}
 use mathlib.Core.Logic.{⊎-elim}
-use mathlib.Core.List.{List, _++_}
+use mathlib.Core.List.{List}
 use Prim.Native.Nat.{ℕ, _+_, _*_, _-_, _≤_, _<_}
 use native.Mathlib.Omega.{arith}
 use lib.ListN.{length, getD, drop, length-append, length-drop, List·getD-append}
@@ -9,14 +9,14 @@ use lib.Seq.{getD-append-add, getD-drop, ext-getD}
 use Rattle.rules.specs.declared.Offset.{Offset}
 use Rattle.rules.specs.Frames.{frameOf, writtenOver}
 use Rattle.rules.specs.Greys.{greyFrame}
-use Rattle.rules.specs.Levels.{wardOrder, byTolerance, Aligned, pair}
+use Rattle.rules.specs.Levels.{wardOrder, byTolerance, Aligned}
 use Rattle.rules.specs.Calls.{pairResult}
 use Rattle.rules.proofs.SumLaws.{order}
 use Rattle.rules.proofs.FrameLaws.{RowAt, pixel-fits}
 use Rattle.rules.proofs.PairLaws.{SameFrame, pair-ext}
 use Rattle.rules.proofs.AlignmentLaws.{PairOk}
 use Rattle.frame.specs.Places.{greyAt}
-use Rattle.align.specs.Aligns.{Frames, Aligns, alignedIn, countOf}
+use Rattle.align.specs.Aligns.{Frames, Aligns, alignedIn}
 use Rattle.align.proofs.AlignLaws.{counts-length}
 
 -- a raster converted from place `to` on stands there as its grey frame

@@ -2,7 +2,7 @@
 use mathlib.Core.Path.{_≡_}
 use mathlib.Core.List.{List}
 use Prim.Native.Nat.{ℕ, _+_, _*_, _^_, _≤_, _<_}
-use lib.ListN.{length, getD, drop}
+use lib.ListN.{getD, drop}
 use Rattle.rules.specs.declared.Offset.{Offset}
 use Rattle.rules.specs.Frames.{frameOf}
 use Rattle.rules.specs.Levels.{wardOrder, byTolerance, Aligned, pair}

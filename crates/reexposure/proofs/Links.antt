@@ -1,6 +1,6 @@
 -- Grey values of two exposures that go together: any two such pairs compare alike. Pairs stay so under halving, and a
 -- threshold is seen only through tests that come out alike, so the two exposures have the same bits at every level.
-use mathlib.Core.Path.{_≡_, refl, sym, ap, ap₂, _∙_}
+use mathlib.Core.Path.{_≡_, sym, ap, ap₂, _∙_}
 use mathlib.Core.Bool.{Bool, true, false}
 use mathlib.Core.Logic.{⊎-elim}
 use Prim.Native.Nat.{ℕ, _+_, _*_, _-_, _/_, _≤_, _<_, compare, min, max}

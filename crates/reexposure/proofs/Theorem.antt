@@ -1,16 +1,15 @@
 -- Demand 3 of the definitions, whole: any order of the candidates with steps of at most 1, any fair exclusion rule; then document 01's.
-use mathlib.Core.Path.{_≡_, refl, sym, ap, _∙_}
+use mathlib.Core.Path.{_≡_, refl}
 use mathlib.Core.List.{List}
-use Prim.Native.Nat.{ℕ, suc, _+_, _*_, _-_, _/_, _^_, _≤_, _<_}
+use Prim.Native.Nat.{ℕ, suc, _+_, _*_, _-_, _^_, _≤_, _<_}
 use native.Mathlib.Omega.{arith}
-use lib.IntN.{ℤ, pos, natAbs}
 use lib.ListN.{getD, drop}
 use lib.Seq.{getD-drop}
 use Rattle.rules.specs.Greys.{grey, greyFrame}
 use Rattle.rules.specs.Planes.{distance}
 use Rattle.rules.specs.declared.Offset.{Offset}
 use Rattle.rules.specs.Levels.{Exclusion, wardOrder, byTolerance, pair}
-use Rattle.rules.specs.Series.{Settings, greyOf, pairOf, frameOffset, offsetList, Answer, answerOf, answerBy, seriesAnswer}
+use Rattle.rules.specs.Series.{Settings, greyOf, pairOf, frameOffset, answerOf, answerBy, seriesAnswer}
 use Rattle.reexposure.specs.Reexposure.{Reexposed, Bytes, Sound, Bounded, Demand3}
 use Rattle.reexposure.proofs.Links.{Link, Linked, Fair, fair-zero}
 use Rattle.reexposure.proofs.Pairs.{linked-kept, answer-ext}

@@ -5,9 +5,7 @@ use Prim.Native.Nat.{ℕ, suc, _+_, _*_, _-_, _^_, _≤_, _<_, compare}
 use lib.IntN.{pos, natAbs}
 use lib.ListN.{getD}
 use Rattle.rules.specs.Planes.{distance}
-use Rattle.rules.specs.declared.Offset.{Offset}
-use Rattle.rules.specs.Levels.{Exclusion}
-use Rattle.rules.specs.Series.{Settings, greyOf, Answer, answerBy, seriesAnswer}
+use Rattle.rules.specs.Series.{Settings, greyOf, Answer, seriesAnswer}
 
 -- "for each frame and any two of its pixels, their full-size grey values compare in F' as in F": darker, equal or brighter
 pub record Reexposed (S : Settings) (F F′ : List ℕ) : Type 0 where

@@ -1,13 +1,11 @@
 -- A difference count sees the bit planes only inside the frame.
 use mathlib.Core.Path.{_≡_, refl, ap}
-use mathlib.Core.Bool.{Bool, true, false}
 use mathlib.Core.Logic.{⊎-elim}
 use Prim.Native.Nat.{ℕ, _≤_, _<_}
-use lib.Dec.{ltb, eqb}
+use lib.Dec.{ltb}
 use lib.IntN.{ℤ, pos, negsuc, _-ℤ_}
-use borrow.Author.Tests.{lt-ltb, le-ltb}
-use Rattle.rules.specs.Sums.{gate, oneIf}
-use Rattle.rules.specs.Frames.{Frame}
+use borrow.Author.Tests.{le-ltb}
+use Rattle.rules.specs.Sums.{gate}
 use Rattle.rules.specs.Planes.{within}
 use Rattle.rules.specs.Differences.{Planes, differ, differAt, difference}
 use Rattle.rules.proofs.SumLaws.{order, pixels-ext}

@@ -1,15 +1,15 @@
 -- The worked examples come out as document 01 prints them: each by computing the definitions.
 use mathlib.Core.Path.{_≡_, refl, ap, ap₂, _∙_}
-use mathlib.Core.List.{List, [], _∷_, map}
+use mathlib.Core.List.{List, [], _∷_}
 use Prim.Native.Nat.{ℕ}
-use lib.IntN.{ℤ, pos, negsuc}
+use lib.IntN.{ℤ}
 use Rattle.rules.specs.Sums.{sum, sumPixels}
 use Rattle.rules.specs.Frames.{Frame, frameOf}
 use Rattle.rules.specs.Greys.{grey, insert, sorted, secondSmallest}
 use Rattle.rules.specs.Thresholds.{atMost, reaches, least, threshold}
 use Rattle.rules.specs.Planes.{thresholdBit, distance, exclusionBit, bitsBy, within}
 use Rattle.rules.specs.Differences.{Planes, differ, differAt, difference}
-use Rattle.rules.specs.Levels.{still, wardOrder, byTolerance, planesBy, firstLeast, chosen, Aligned, level, countAt, pair}
+use Rattle.rules.specs.Levels.{still, wardOrder, byTolerance, planesBy, firstLeast, chosen, level, countAt, pair}
 use Rattle.rules.specs.Examples.{ExamplesHold, one, oneToFour, firstFrame, secondFrame, numbers, printedCase, aligned, asPrinted}
 
 -- the two planes once the threshold is known, so that it is worked out once and not for each pixel

@@ -1,14 +1,14 @@
 -- Laws of the lists that hold frames, and the records that the writing loops keep.
-use mathlib.Core.Path.{_≡_, refl, sym, ap, ap₂, _∙_}
-use mathlib.Core.Logic.{_⊎_, inl, inr, ⊎-elim}
+use mathlib.Core.Path.{_≡_, refl, sym, ap, _∙_}
+use mathlib.Core.Logic.{⊎-elim}
 use mathlib.Core.List.{List, [], _∷_, _++_}
 use Prim.Native.Nat.{ℕ, zero, suc, _+_, _*_, _-_, _/_, _%_, _≤_, _<_}
-use native.Mathlib.Nat.{zero-add, zero-mul, suc-mul, mul-comm, mul-le-mul-right, add-zero, mul-zero, mul-suc, mod-lt, div-add-mod', div-lt-iff-lt-mul}
+use native.Mathlib.Nat.{zero-add, zero-mul, suc-mul, mul-comm, mul-le-mul-right, mul-zero, mul-suc, mod-lt, div-add-mod', div-lt-iff-lt-mul}
 use native.Mathlib.Numerals.{add-one}
 use native.Mathlib.Omega.{arith}
-use lib.ListN.{length, getD, drop, set, length-append, length-drop, length-set, List·getD-append, List·getD-eq-default}
+use lib.ListN.{length, getD, drop, set, length-append, length-drop, length-set, List·getD-append}
 use lib.Seq.{getD-append-add, getD-set-same, getD-set-other, getD-drop, ext-getD}
-use Rattle.rules.specs.Frames.{Frame, frameOf, row, rows, writtenOver}
+use Rattle.rules.specs.Frames.{Frame, row, rows, writtenOver}
 use Rattle.rules.proofs.SumLaws.{order}
 
 pub length-row : (n : ℕ) (f : ℕ → ℕ) → length (row n f) ≡ n

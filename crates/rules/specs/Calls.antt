@@ -14,7 +14,7 @@ use Rattle.rules.specs.Bitmaps.{bitAt, packed}
 use Rattle.rules.specs.Differences.{Planes, difference}
 use Rattle.rules.specs.Levels.{wardOrder, byTolerance, Aligned, pair}
 use Rattle.rules.specs.Refusals.{greyRefusal, halveRefusal, thresholdRefusal, bitmapsRefusal, shiftRefusal, totalRefusal, differenceRefusal, pairRefusal, seriesRefusal}
-use Rattle.rules.specs.Series.{Settings, Answer, seriesAnswer}
+use Rattle.rules.specs.Series.{Settings}
 use Rattle.rules.specs.Answers.{written, counted, thresholded, lent}
 
 -- Grey conversion of a raster into a lent grey frame.

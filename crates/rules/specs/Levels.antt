@@ -1,5 +1,5 @@
 -- Pair alignment, level by level: candidates, first least, doubling. The order of the nine candidates and the exclusion rule are parameters.
-use mathlib.Core.Bool.{Bool, cond}
+use mathlib.Core.Bool.{cond}
 use mathlib.Core.List.{List, [], _∷_, _++_, map}
 use Prim.Native.Nat.{ℕ, zero, suc, _/_}
 use lib.Dec.{ltb}

@@ -1,5 +1,4 @@
 -- The two bits of a pixel, bit planes, and their shift. A bit is 0 or 1; a plane is a frame of bits.
-use mathlib.Core.Bool.{_||_}
 use Prim.Native.Nat.{ℕ, _-_, min, max}
 use lib.Dec.{ltb}
 use lib.IntN.{ℤ, pos, negsuc, _-ℤ_}

@@ -1,6 +1,6 @@
 -- The refusal number of each call: "the lowest that applies is given, and none otherwise"; 0 is none.
 -- The conditions see sizes, settings and lengths, never what a buffer holds.
-use mathlib.Core.Bool.{Bool, true, false, _&&_, _||_, not}
+use mathlib.Core.Bool.{Bool, true, false, _||_, not}
 use mathlib.Core.List.{List, [], _∷_}
 use Prim.Native.Nat.{ℕ, zero, suc, _+_, _*_, _-_, _/_, _^_}
 use lib.Dec.{ltb, eqb}

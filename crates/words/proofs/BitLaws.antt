@@ -1,13 +1,13 @@
 -- The bits of a number under the machine's operations, and a word known by its bits.
 -- `a << k` is a * 2 ^ k % 2 ^ 64 and `a >> k` is a / 2 ^ k: the laws are stated in these forms.
-use mathlib.Core.Path.{_≡_, refl, sym, ap, ap₂, _∙_}
-use mathlib.Core.Logic.{_⊎_, inl, inr, ⊎-elim}
+use mathlib.Core.Path.{_≡_, sym, ap, ap₂, _∙_}
+use mathlib.Core.Logic.{⊎-elim}
 use Prim.Native.Nat.{ℕ, zero, suc, _+_, _*_, _-_, _/_, _%_, _^_, _≤_, _<_, min, max}
-use native.Mathlib.Nat.{mod-lt, mod-eq-of-lt, div-eq-of-lt, zero-div, mul-le-mul, pow-suc, add-comm, mul-comm}
+use native.Mathlib.Nat.{mod-lt, mod-eq-of-lt, div-eq-of-lt, pow-suc, add-comm}
 use native.Mathlib.Omega.{arith}
 use lib.Bits.{bitAnd, bitOr, bitXor, differ, and-step, or-step, xor-step, and-shr, or-shr, xor-shr}
 use lib.Arith.{digits-mod}
-use lib.Pow.{pow-pos, pow-mono, shr-shr, shl-shr, split, high, low, field, mod-mod-pow, mod-pow-add, pow-add, shr-lt}
+use lib.Pow.{pow-pos, pow-mono, shr-shr, shl-shr, split, high, low, field, mod-mod-pow, shr-lt}
 use Rattle.rules.specs.Sums.{sum}
 use Rattle.rules.specs.Bitmaps.{bit, word}
 use Rattle.rules.proofs.SumLaws.{order, sum-ext}

@@ -3,7 +3,6 @@ use mathlib.Core.Path.{sym, _∙_}
 use Prim.Native.Nat.{_/_, _%_}
 use Rattle.rules.proofs.LevelLaws.{candidate-is}
 use Rattle.candidates.proofs.LeadingLaws.{coordinate-fits, coordinate-is}
-use native.Mathlib.Omega.{arith}
 use borrow.Author.Needs.{needs}
 use Rattle.candidates.proofs.candidate.Statement.{statement}
 use Rattle.candidates.proofs.candidate.Tie as tie

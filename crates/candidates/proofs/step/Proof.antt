@@ -1,7 +1,5 @@
 -- Each return is a case of `stepOf`.
 use Rattle.candidates.proofs.LeadingLaws.{step-beyond}
-use native.Mathlib.Omega.{arith}
-use borrow.Author.Needs.{needs}
 use Rattle.candidates.proofs.step.Statement.{statement}
 use Rattle.candidates.proofs.step.Tie as tie
 

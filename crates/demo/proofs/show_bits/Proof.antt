@@ -1,6 +1,5 @@
 -- The invariant keeps the place within its bound.
 use Prim.Native.Nat.{_≤_, _-_}
-use native.Mathlib.Omega.{arith}
 use borrow.Author.Needs.{needs}
 use Rattle.demo.proofs.show_bits.Statement.{statement}
 use Rattle.demo.proofs.show_bits.Tie as tie

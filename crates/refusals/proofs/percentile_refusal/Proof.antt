@@ -1,8 +1,6 @@
 -- Each return rewrites with the tests on the way there.
 use borrow.Author.Tests.{eq-eqb, ne-eqb}
 use Rattle.rules.specs.Refusals.{badPercentile}
-use native.Mathlib.Omega.{arith}
-use borrow.Author.Needs.{needs}
 use Rattle.refusals.proofs.percentile_refusal.Statement.{statement}
 use Rattle.refusals.proofs.percentile_refusal.Tie as tie
 

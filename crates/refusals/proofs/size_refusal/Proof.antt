@@ -1,8 +1,6 @@
 -- Each return rewrites with the tests on the way there.
 use borrow.Author.Tests.{lt-ltb, le-ltb, eq-eqb, ne-eqb}
 use Rattle.rules.specs.Refusals.{badSize, badSide}
-use native.Mathlib.Omega.{arith}
-use borrow.Author.Needs.{needs}
 use Rattle.refusals.proofs.size_refusal.Statement.{statement}
 use Rattle.refusals.proofs.size_refusal.Tie as tie
 

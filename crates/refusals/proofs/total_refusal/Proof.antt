@@ -1,5 +1,5 @@
 -- Each return rewrites with the tests on the way there; a product fits since the sizes are within their limits.
-use borrow.Author.Tests.{lt-ltb, le-ltb, eq-eqb, ne-eqb}
+use borrow.Author.Tests.{eq-eqb, ne-eqb}
 use Rattle.rules.specs.Refusals.{totalRefusal, badSize}
 use Rattle.rules.proofs.RefusalLaws.{told-yes, told-no, size-told}
 use native.Mathlib.Omega.{arith}

@@ -2,7 +2,6 @@
 use Prim.Native.Nat.{ℕ, _≤_}
 use native.Mathlib.Omega.{arith}
 use Rattle.rules.proofs.SignedLaws.{sum-bits-fit, sum-is}
-use borrow.Author.Needs.{needs}
 use Rattle.align.proofs.pairs.doubled.Statement.{statement}
 use Rattle.align.proofs.pairs.doubled.Tie as tie
 
