@@ -17,7 +17,6 @@ use Rattle.rules.proofs.BoundLaws.{Near, near-add}
 use Rattle.rules.proofs.LevelLaws.{candidateAt, stepOf, candidate-is}
 use Rattle.rules.proofs.SignedLaws.{bits-are}
 use Rattle.candidates.proofs.LeadingLaws.{step-near}
-use Rattle.count.specs.Rows.{FramesIn}
 use Rattle.level.specs.Places.{wordsCount}
 use Rattle.level.specs.Choices.{nineOf}
 
@@ -28,27 +27,15 @@ lentFrom n l = take (length l - n) (drop n l)
 lent-is : (n : ℕ) (l : List ℕ) → lentFrom n l ≡ drop n l
 lent-is n l = take-all (length l - n) (drop n l) (let a = length-drop n l in omega arith)
 
-length-lent : (n : ℕ) (l : List ℕ) → length (lentFrom n l) ≡ length l - n
-length-lent n l = ap length (lent-is n l) ∙ length-drop n l
-
--- The parts of the words from their bitmaps on.
-module _ (w h n : ℕ) (words : List ℕ) (e : n ≡ rowWords w * h) where
-  pub parts-in : 4 * (rowWords w * h) ≤ length words → FramesIn words (lentFrom n words) (lentFrom (2 * n) words) (lentFrom (3 * n) words) w h
-  parts-in room = record {
-    threshold1 = omega arith;
-    exclusion1 = let a = length-lent n words in omega arith;
-    threshold2 = let a = length-lent (2 * n) words in omega arith;
-    exclusion2 = let a = length-lent (3 * n) words in omega arith;
-  }
-
-  pub parts-count : (dx dy : ℤ) → SFits w32 dx → SFits w32 dy
-      → difference w h (toZ w32 (ofZ w32 dx)) (toZ w32 (ofZ w32 dy)) (planesOf w h words (lentFrom n words))
-      (planesOf w h (lentFrom (2 * n) words) (lentFrom (3 * n) words))
-      ≡ difference w h dx dy (planesOf w h words (drop (rowWords w * h) words))
-      (planesOf w h (drop (2 * (rowWords w * h)) words) (drop (3 * (rowWords w * h)) words))
-  parts-count dx dy k l =
-      (λ i. difference w h (toZ-ofZ k i) (toZ-ofZ l i) (planesOf w h words (lent-is n words i)) (planesOf w h (lent-is (2 * n) words i) (lent-is (3 * n) words i)))
-      ∙ ap (λ (m : ℕ). difference w h dx dy (planesOf w h words (drop m words)) (planesOf w h (drop (2 * m) words) (drop (3 * m) words))) e
+-- the count over the parts of the words from their bitmaps on
+pub parts-count : (w h n : ℕ) (words : List ℕ) (dx dy : ℤ) → n ≡ rowWords w * h → SFits w32 dx → SFits w32 dy
+    → difference w h (toZ w32 (ofZ w32 dx)) (toZ w32 (ofZ w32 dy)) (planesOf w h words (lentFrom n words))
+    (planesOf w h (lentFrom (2 * n) words) (lentFrom (3 * n) words))
+    ≡ difference w h dx dy (planesOf w h words (drop (rowWords w * h) words))
+    (planesOf w h (drop (2 * (rowWords w * h)) words) (drop (3 * (rowWords w * h)) words))
+parts-count w h n words dx dy e k l =
+    (λ i. difference w h (toZ-ofZ k i) (toZ-ofZ l i) (planesOf w h words (lent-is n words i)) (planesOf w h (lent-is (2 * n) words i) (lent-is (3 * n) words i)))
+    ∙ ap (λ (m : ℕ). difference w h dx dy (planesOf w h words (drop m words)) (planesOf w h (drop (2 * m) words) (drop (3 * m) words))) e
 
 candidate-near : (centre : Offset) (k : ℕ) → k < 9 → Near 1000000 centre → Near 1000001 (candidateAt centre k)
 candidate-near centre k l near =

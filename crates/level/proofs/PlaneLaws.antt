@@ -70,7 +70,7 @@ both-none first second n f g before =
     record { len = refl; under = λ m l. refl; firsts = λ x z k l. absurd (omega arith); seconds = λ x z k l. absurd (omega arith) }
 
 -- one row more of each
-pub both-more : (first second n : ℕ) (f g : Frame) (before : List ℕ) (y : ℕ) (old mid new : List ℕ) → first + y * n + n ≤ second
+both-more : (first second n : ℕ) (f g : Frame) (before : List ℕ) (y : ℕ) (old mid new : List ℕ) → first + y * n + n ≤ second
     → BothAt first second n f g before y old
     → RowAt (first + y * n) (λ x. f x y) old n mid
     → RowAt (second + y * n) (λ x. g x y) mid n new
@@ -110,14 +110,17 @@ row-of lo hi w from y grey = λ i k. word (λ j. gate (ltb (k * 64 + j) w) (outs
     same x = ap (λ (j : ℕ). getD grey j 0) (add-assoc from (y * w) x) ∙ sym (getD-drop from grey (y * w + x) 0)
 
 -- one row of a grey frame more in both bitmaps
-pub packed-more : (t lo hi w h from y : ℕ) (grey : List ℕ) (to n : ℕ) (before old mid new : List ℕ) → n ≡ rowWords w → y < h
+pub packed-more : (t lo hi w h from y : ℕ) (grey : List ℕ) (to exclusions n : ℕ) (before old mid new : List ℕ)
+    → exclusions ≡ to + rowWords w * h
+    → n ≡ rowWords w
+    → y < h
     → BothAt to (to + rowWords w * h) (rowWords w) (wordOf w (outsidePlane 0 t w (drop from grey))) (wordOf w (outsidePlane lo hi w (drop from grey))) before y old
     → RowAt (to + y * n) (outsideWord 0 t grey (from + y * w) w) old (rowWords w) mid
-    → RowAt (to + rowWords w * h + y * n) (outsideWord lo hi grey (from + y * w) w) mid (rowWords w) new
+    → RowAt (exclusions + y * n) (outsideWord lo hi grey (from + y * w) w) mid (rowWords w) new
     → BothAt to (to + rowWords w * h) (rowWords w) (wordOf w (outsidePlane 0 t w (drop from grey))) (wordOf w (outsidePlane lo hi w (drop from grey))) before (y + 1) new
-packed-more t lo hi w h from y grey to n before old mid new e l b r s =
+packed-more t lo hi w h from y grey to exclusions n before old mid new d e l b r s =
     both-more to (to + rowWords w * h) (rowWords w) (wordOf w (outsidePlane 0 t w (drop from grey))) (wordOf w (outsidePlane lo hi w (drop from grey))) before y old mid new
-    (let a = row-fits (rowWords w) h y l in omega arith) b (rw (e, row-of) at r) (rw (e, row-of) at s)
+    (let a = row-fits (rowWords w) h y l in omega arith) b (rw (e, row-of) at r) (rw (d, e, row-of) at s)
 
 -- The bits of a plane are those of its words, wherever these begin.
 bits-packed : (w h to : ℕ) (f : Frame) (words : List ℕ) → ((x y : ℕ) → f x y < 2)
@@ -177,7 +180,7 @@ bits-kept w h to before after same x y k l =
     (getD-drop to after j 0 ∙ same (to + j) (omega arith) ∙ sym (getD-drop to before j 0))
 
 -- Bitmaps stay a frame's while only places after them are written.
-pub planes-kept : (w h to : ℕ) (before after : List ℕ) (p : Planes)
+planes-kept : (w h to : ℕ) (before after : List ℕ) (p : Planes)
     → ((m : ℕ) → m < to + 2 * (rowWords w * h) → getD after m 0 ≡ getD before m 0)
     → SamePlanes w h (planesAt w h to before) p → SamePlanes w h (planesAt w h to after) p
 planes-kept w h to before after p same q = record {

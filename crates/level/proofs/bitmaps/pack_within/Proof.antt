@@ -1,6 +1,6 @@
 -- The invariant: the first y rows of both bitmaps are written, and nothing before place `to` has changed.
-use mathlib.Core.Path.{_≡_}
-use Prim.Native.Nat.{_+_, _*_, _-_, _≤_, _<_}
+use mathlib.Core.Path.{_≡_, ap}
+use Prim.Native.Nat.{ℕ, _+_, _*_, _-_, _≤_, _<_}
 use lib.ListN.{drop}
 use Rattle.rules.specs.Bitmaps.{rowWords, wordOf}
 use Rattle.rules.proofs.FrameLaws.{row-fits}
@@ -84,10 +84,12 @@ loop-again c =
     let l = s .before .loop in
     let a = s .before .before .before .before .before .before .args in
     let n = s .before .before .before .row-words in
+    let size = s .before .before .bitmap-words in
     let less : l .y < a .h = omega arith in (
       search needs,
-      packed-more (a .threshold) (a .lo) (a .hi) (a .w) (a .h) (a .from) (l .y) (a .grey .now) (a .to) (n .result) (a .words .now) (l .words) _ _ (n .ensures) less (l .inv .1)
-          (c .before .before .before .before .before .before .pack-row .ensures) (rw (s .before .before .bitmap-words .ensures) at (c .before .before .pack-row2 .ensures)),
+      packed-more (a .threshold) (a .lo) (a .hi) (a .w) (a .h) (a .from) (l .y) (a .grey .now) (a .to) (a .to + size .result) (n .result) (a .words .now) (l .words) _ _
+          (ap (λ (m : ℕ). a .to + m) (size .ensures)) (n .ensures) less (l .inv .1)
+          (c .before .before .before .before .before .before .pack-row .ensures) (c .before .before .pack-row2 .ensures),
     )
 
 same-length : tie.Need-same-length Inv-loop μ-loop

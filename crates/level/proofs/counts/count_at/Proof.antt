@@ -1,6 +1,8 @@
 -- Each part is lent as far as the words reach, which is the list from its place on.
 use mathlib.Core.Path.{_∙_}
-use Rattle.level.proofs.CountLaws.{parts-in, parts-count}
+use native.Mathlib.Omega.{arith}
+use lib.ListN.{length-take, length-drop}
+use Rattle.level.proofs.CountLaws.{parts-count}
 use borrow.Author.Needs.{needs}
 use Rattle.level.proofs.counts.count_at.Statement.{statement}
 use Rattle.level.proofs.counts.count_at.Tie as tie
@@ -54,13 +56,13 @@ difference-frame-requires : tie.Need-difference-frame-requires
 difference-frame-requires c κs =
     let s = c .before .before .before .before .before in
     let p = s .pre in
-    (p .0 .width, (p .0 .height, (parts-in (s .args .w) (s .args .h) (c .before .before .before .bitmap-words .result) (s .args .words .now) (c .before .before .before .bitmap-words .ensures) (p .1 .0), p .1 .1)))
+    (p .0 .width, (p .0 .height, (record { threshold1 = omega arith; exclusion1 = simp (length-take, length-drop) (omega arith); threshold2 = simp (length-take, length-drop) (omega arith); exclusion2 = simp (length-take, length-drop) (omega arith) }, p .1 .1)))
 
 returns : tie.Need-returns
 returns c =
     let s = c .before .before .before .before .before .before in
     let b = c .before .before .before .before .bitmap-words in
-    c .difference-frame .ensures ∙ parts-count (s .args .w) (s .args .h) (b .result) (s .args .words .now) (b .ensures) (s .args .dx) (s .args .dy) (s .fits .dx) (s .fits .dy)
+    c .difference-frame .ensures ∙ parts-count (s .args .w) (s .args .h) (b .result) (s .args .words .now) (s .args .dx) (s .args .dy) (b .ensures) (s .fits .dx) (s .fits .dy)
 
 pub count-at-spec : {M : Type 1} → statement M
 count-at-spec =
