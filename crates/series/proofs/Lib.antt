@@ -1,0 +1,2 @@
+-- Laws of the pairs' runs over plain lists.
+pub mod RunLaws

@@ -1,0 +1,3 @@
+// Alignment of a series: the offered call.
+
+pub mod runs;
