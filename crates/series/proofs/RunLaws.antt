@@ -1,5 +1,5 @@
 -- Laws of the runs: the places of the greys, the slots of the offsets, the places of the counts.
-use mathlib.Core.Path.{_≡_, refl, sym, ap, subst, _∙_}
+use mathlib.Core.Path.{_≡_, refl, sym, ap, ap₂, subst, _∙_}
 use mathlib.Core.Logic.{_⊎_, inl, inr, ⊎-elim}
 use mathlib.Core.Bool.{cond}
 use mathlib.Core.List.{List, [], _∷_, _++_}
@@ -8,9 +8,12 @@ use native.Mathlib.Nat.{zero-add, zero-mul, suc-mul, mul-comm, mul-le-mul-right}
 use native.Mathlib.Numerals.{add-one}
 use native.Mathlib.Omega.{arith}
 use lib.IntN.{ℤ, pos, natAbs}
-use lib.ListN.{length, getD, drop, set, length-append, length-drop, List·getD-append}
+use lib.ListN.{length, getD, take, drop, set, length-append, length-drop, List·getD-append}
 use lib.Seq.{getD-append-add, getD-drop, ext-getD}
 use lib.Pow.{pow-mono}
+use borrow.Rule.Slice.PartAt.{part-to-end}
+use mir.Syntax.{w32}
+use mir.Val.{toZ, ofZ}
 use borrow.Author.Tests.{eq-eqb, ne-eqb, lt-ltb, le-ltb}
 use Rattle.rules.specs.declared.Offset.{Offset}
 use Rattle.rules.specs.Frames.{Frame, frameOf, writtenOver}
@@ -22,6 +25,7 @@ use Rattle.rules.proofs.SumLaws.{order}
 use Rattle.rules.proofs.FrameLaws.{RowAt, row-none, pixel-fits}
 use Rattle.rules.proofs.PairLaws.{SameFrame, pair-ext}
 use Rattle.rules.proofs.BoundLaws.{Near, near-pair, near-ward, near-more}
+use Rattle.rules.proofs.SignedLaws.{bits-are}
 use Rattle.rules.proofs.AlignmentLaws.{SeriesOk, level-pixels-at}
 use Rattle.frame.specs.Places.{greyAt}
 use Rattle.frame.proofs.PlaceLaws.{row-join}
@@ -195,6 +199,13 @@ frames-at w h s k rasters offsets counts grey words first second o a b = record 
 pub place-room : (w h s k grey : ℕ) → greyNeeded s w h ≤ grey → placeOf k (w * h) + w * h ≤ grey
 place-room w h s k grey l = let a = level-pixels-at s w h in let b = place-fits k (w * h) in omega arith
 
+-- the rest of a list from a place on
+pub part-room : (rasters : List ℕ) (from n : ℕ) → from + n ≤ length rasters → n ≤ length (take (length rasters - from) (drop from rasters))
+part-room rasters from n l = rw (part-to-end rasters from) (let a = length-drop from rasters in omega arith)
+
+abbrev bits : ℤ → ℤ
+bits z = toZ w32 (ofZ w32 z)
+
 -- A pair's run, from what its three parts leave: the conversion, the alignment, the stores.
 module _ (w h s r k percentile tolerance first second at slot : ℕ) (rasters part grey0 grey1 grey2 counts counts′ : List ℕ) (offsets : List ℤ) (m : Offset)
     (e1 : first ≡ placeOf k (w * h)) (e2 : second ≡ placeOf (k + 1) (w * h)) (e3 : at ≡ k * (9 * (s + 1))) (e4 : slot ≡ slotOf r k)
@@ -222,9 +233,22 @@ module _ (w h s r k percentile tolerance first second at slot : ℕ) (rasters pa
       (frameOf w (drop first grey1)) (frameAt w h rasters k) (frameOf w (drop second grey1)) (frameAt w h rasters (k + 1))
       first-stands second-stands
 
-  pub ran : 2 * slot + 2 ≤ length offsets
-      → Ran w h s r k rasters (pairAt w h s tolerance percentile rasters k) offsets (set (set offsets (2 * slot) (m .dx)) (2 * slot + 1) (m .dy)) counts counts′ grey2
-  ran room = record {
+  near : s ≤ 8 → Near 4000000 m
+  near low =
+      rw (aligns .offset)
+      (near-more (2 ^ suc s - 1) 4000000 (alignedIn first second w h s percentile tolerance grey1 .offset)
+      (let p = pow-mono {i = suc s} {j = 9} (omega arith) in omega arith)
+      (near-pair wardOrder near-ward (byTolerance tolerance) percentile s w h (frameOf w (drop first grey1)) (frameOf w (drop second grey1))))
+
+  -- the stores read a signed number back from its bits
+  stored-is : s ≤ 8 → set (set offsets (2 * slot) (m .dx)) (2 * slot + 1) (m .dy) ≡ set (set offsets (2 * slot) (bits (m .dx))) (2 * slot + 1) (bits (m .dy))
+  stored-is low =
+      let n = near low in
+      ap₂ (λ (x y : ℤ). set (set offsets (2 * slot) x) (2 * slot + 1) y) (sym (bits-are (m .dx) (n .dx))) (sym (bits-are (m .dy) (n .dy)))
+
+  pub ran : s ≤ 8 → 2 * slot + 2 ≤ length offsets
+      → Ran w h s r k rasters (pairAt w h s tolerance percentile rasters k) offsets (set (set offsets (2 * slot) (bits (m .dx))) (2 * slot + 1) (bits (m .dy))) counts counts′ grey2
+  ran low room = record {
     stands = λ x y i j.
         ap (λ (p : ℕ). frameOf w (drop p grey2) x y) (sym e2)
         ∙ frame-kept second w h grey1 grey2 (λ q a b. aligns .kept q (let p = place-fits (k + 1) (w * h) in omega arith)) x y i j
@@ -233,12 +257,12 @@ module _ (w h s r k percentile tolerance first second at slot : ℕ) (rasters pa
     written = counted;
   }
     where
-      moved : Put offsets (2 * slotOf r k) (pairAt w h s tolerance percentile rasters k .offset) (set (set offsets (2 * slot) (m .dx)) (2 * slot + 1) (m .dy))
+      moved : Put offsets (2 * slotOf r k) (pairAt w h s tolerance percentile rasters k .offset) (set (set offsets (2 * slot) (bits (m .dx))) (2 * slot + 1) (bits (m .dy)))
       moved =
-          subst (λ (p : ℕ). Put offsets (2 * p) (pairAt w h s tolerance percentile rasters k .offset) (set (set offsets (2 * slot) (m .dx)) (2 * slot + 1) (m .dy))) e4
-          (subst (λ (o : Offset). Put offsets (2 * slot) o (set (set offsets (2 * slot) (m .dx)) (2 * slot + 1) (m .dy)))
+          subst (λ (p : ℕ). Put offsets (2 * p) (pairAt w h s tolerance percentile rasters k .offset) (set (set offsets (2 * slot) (bits (m .dx))) (2 * slot + 1) (bits (m .dy)))) e4
+          (subst (λ (o : Offset). Put offsets (2 * slot) o (set (set offsets (2 * slot) (bits (m .dx))) (2 * slot + 1) (bits (m .dy))))
           (aligns .offset ∙ ap (λ (a : Aligned). a .offset) answer-is)
-          (put offsets (2 * slot) m room))
+          (subst (λ (l : List ℤ). Put offsets (2 * slot) m l) (stored-is low) (put offsets (2 * slot) m room)))
 
       counted : RowAt (k * (9 * (s + 1))) (λ i. getD (pairAt w h s tolerance percentile rasters k .counts) i 0) counts (9 * (s + 1)) counts′
       counted =
