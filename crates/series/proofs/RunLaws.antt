@@ -4,7 +4,7 @@ use mathlib.Core.Logic.{_⊎_, inl, inr, ⊎-elim}
 use mathlib.Core.Bool.{cond}
 use mathlib.Core.List.{List, [], _∷_, _++_}
 use Prim.Native.Nat.{ℕ, zero, suc, _+_, _*_, _-_, _/_, _%_, _^_, _≤_, _<_}
-use native.Mathlib.Nat.{zero-add, zero-mul, suc-mul, mul-comm, mul-le-mul-right}
+use native.Mathlib.Nat.{zero-add, zero-mul, one-mul, suc-mul, mul-comm, mul-le-mul-right}
 use native.Mathlib.Numerals.{add-one}
 use native.Mathlib.Omega.{arith}
 use lib.IntN.{ℤ, pos, natAbs}
@@ -20,7 +20,8 @@ use Rattle.rules.specs.Frames.{Frame, frameOf, writtenOver}
 use Rattle.rules.specs.Greys.{greyFrame}
 use Rattle.rules.specs.Levels.{wardOrder, byTolerance, Aligned, pair}
 use Rattle.rules.specs.Refusals.{greyNeeded}
-use Rattle.rules.specs.Series.{countList}
+use Rattle.rules.specs.Series.{greyOf, pairOf, countList, answerOf, answerBy, seriesAnswer}
+use Rattle.rules.specs.Calls.{settings}
 use Rattle.rules.proofs.SumLaws.{order}
 use Rattle.rules.proofs.FrameLaws.{RowAt, row-none, pixel-fits}
 use Rattle.rules.proofs.PairLaws.{SameFrame, pair-ext}
@@ -31,8 +32,8 @@ use Rattle.frame.specs.Places.{greyAt}
 use Rattle.frame.proofs.PlaceLaws.{row-join}
 use Rattle.align.specs.Aligns.{Frames, Aligns, alignedIn}
 use Rattle.align.proofs.AlignLaws.{counts-length}
-use Rattle.offsets.specs.Held.{slotOf, heldAt}
-use Rattle.offsets.proofs.SlotLaws.{Put, put}
+use Rattle.offsets.specs.Held.{slotOf, heldAt, Summed}
+use Rattle.offsets.proofs.SlotLaws.{Put, put, summed-list}
 use Rattle.series.specs.Runs.{placeOf, frameAt, Stands, pairAt, pairsOf, Room, Ran, Run, Paired}
 
 -- The two places.
@@ -175,6 +176,10 @@ room-at w h s tolerance n r ps rasters offsets counts grey words k o l = record 
   greys = o .greys;
   bitmaps = o .bitmaps;
 }
+
+-- a series has a first frame
+pub whole-room : (n w h rasters : ℕ) → 0 < n → rasters ≡ n * (3 * (w * h)) → 3 * (w * h) ≤ rasters
+whole-room n w h rasters l e = let a = mul-le-mul-right {m = 1} {n = n} (3 * (w * h)) l in let b = one-mul (3 * (w * h)) in omega arith
 
 -- The same lengths have the same room.
 pub room-kept : (w h s tolerance n r : ℕ) (ps : List ℕ) (rasters offsets counts grey words offsets′ counts′ grey′ words′ : ℕ)
@@ -367,3 +372,17 @@ pairs-small w h s tolerance n r ps rasters offsets low inside held m l a b =
         (λ (z : m % 2 < 1). let d : 2 * slotOf r j ≡ m = omega arith in rw (← d) (near j i .dx))
         (λ (z : 1 ≤ m % 2). let d : 2 * slotOf r j + 1 ≡ m = omega arith in rw (← d) (near j i .dy))
         (order (m % 2) 1)
+
+-- What the call leaves is the series' answer.
+pub answer-offsets : (w h s tolerance n r : ℕ) (ps rasters : List ℕ) (entry before after : List ℤ) (counts counts′ : List ℕ) → r < n → 2 * n ≤ length entry
+    → Paired n r (pairsOf w h s tolerance ps rasters) entry before counts counts′ → Summed before after n r
+    → after ≡ writtenOver (seriesAnswer (settings w h s tolerance n r ps) rasters .offsets) entry
+unfolding seriesAnswer answerBy answerOf pairOf greyOf
+answer-offsets w h s tolerance n r ps rasters entry before after counts counts′ inside room p t =
+    summed-list entry before after n r (λ k. pairsOf w h s tolerance ps rasters k .offset) inside room (p .len) (p .over) (p .held) t
+
+pub answer-counts : (w h s tolerance n r : ℕ) (ps rasters : List ℕ) (entry before : List ℤ) (counts counts′ : List ℕ)
+    → Paired n r (pairsOf w h s tolerance ps rasters) entry before counts counts′
+    → counts′ ≡ writtenOver (seriesAnswer (settings w h s tolerance n r ps) rasters .counts) counts
+unfolding seriesAnswer answerBy answerOf pairOf greyOf
+answer-counts w h s tolerance n r ps rasters entry before counts counts′ p = p .written
