@@ -1,48 +1,64 @@
-use native.Mathlib.Omega.{arith}
+-- A refused call answers its number and touches nothing; an accepted one has the sizes that the pairs require, and their offsets summed are the answer.
+use mathlib.Core.Path.{refl, sym, _∙_}
+use lib.ListN.{length}
 use borrow.Author.Needs.{needs}
+use Rattle.rules.proofs.RefusalLaws.{written-refused, lent-refused}
+use Rattle.rules.proofs.AlignmentLaws.{SeriesOk, series-ok}
+use Rattle.series.proofs.RunLaws.{pairs-small, answer-offsets, answer-counts}
 use Rattle.series.proofs.series.Statement.{statement}
 use Rattle.series.proofs.series.Tie as tie
-use Rattle.series.proofs.series.Reads as reads
-use Rattle.series.proofs.series.Lts as lts
-use Rattle.lending.proofs.series_refusal.Reads as series-refusal-reads
-use Rattle.offsets.proofs.sum_about.Reads as sum-about-reads
-use Rattle.series.proofs.runs.align_pairs.Reads as align-pairs-reads
 
--- src/lib.rt:34:9
 series-refusal-requires : tie.Need-series-refusal-requires
 series-refusal-requires c κs = search needs
 
--- src/lib.rt:49:9
 returns : tie.Need-returns
-returns c = ?
+returns c =
+    rw (← c .before .series-refusal .ensures)
+    (written-refused _ (c .if1 .taken), (lent-refused _ _ _ (c .if1 .taken), (lent-refused _ _ _ (c .if1 .taken), λ f. (refl, refl))))
 
--- src/lib.rt:51:5
+-- what an accepted call knows of its sizes
+accepted : (c : tie.Else1)
+    → let a = c .before .before .before .before .before .before .before .args in
+    SeriesOk (a .w) (a .h) (a .s) (a .tolerance) (a .n) (a .r) (a .percentiles .now) (length (a .rasters .now)) (length (a .offsets .now)) (length (a .counts .now)) (length (a .grey .now)) (length (a .words .now))
+accepted c =
+    let a = c .before .before .before .before .before .before .before .args in
+    series-ok (a .w) (a .h) (a .s) (a .tolerance) (a .n) (a .r) (a .percentiles .now) (length (a .rasters .now)) (length (a .offsets .now)) (length (a .counts .now)) (length (a .grey .now)) (length (a .words .now))
+    (sym (c .before .series-refusal .ensures) ∙ c .if1 .left)
+
 align-pairs-requires : tie.Need-align-pairs-requires
-align-pairs-requires c κs = ?
+align-pairs-requires c κs = accepted (c .before .before .before .before)
 
--- src/lib.rt:65:5
 sum-about-requires : tie.Need-sum-about-requires
-sum-about-requires c κs = ?
+sum-about-requires c κs =
+    let a = c .before .before .before .before .before .before .before .before .before .before .before .before .before .before .before .before .before .before .before .before .args in
+    let o = accepted (c .before .before .before .before .before .before .before .before .before .before .before .before .before) in
+    let pairs = c .before .before .before .before .before .before .before .before .align-pairs in
+    ((o .reference, o .frames .1, rw (pairs .ensures .len) (o .room1)),
+    pairs-small (a .w) (a .h) (a .s) (a .tolerance) (a .n) (a .r) (a .percentiles .now) (a .rasters .now) (pairs .last .1 .1 .1 .1 .1 .1 .1 .1 .0) (o .shape .halvings) (o .reference) (pairs .ensures .held))
 
--- src/lib.rt:15:1
 same-length : tie.Need-same-length
 same-length c = search needs
 
--- src/lib.rt:15:1
 same-length-2 : tie.Need-same-length-2
 same-length-2 c = search needs
 
--- src/lib.rt:15:1
 same-length-3 : tie.Need-same-length-3
 same-length-3 c = search needs
 
--- src/lib.rt:15:1
 same-length-4 : tie.Need-same-length-4
 same-length-4 c = search needs
 
--- src/lib.rt:15:1
 returns-2 : tie.Need-returns-2
-returns-2 c = ?
+returns-2 c =
+    let a = c .before .before .before .before .before .before .before .before .before .before .before .before .before .before .before .before .before .before .before .before .before .before .args in
+    let taken = c .before .before .before .before .before .before .before .before .before .before .before .before .before .before .before in
+    let o = accepted taken in
+    let pairs = c .before .before .before .before .before .before .before .before .before .before .align-pairs in
+    let e = sym (taken .before .series-refusal .ensures) ∙ taken .if1 .left in
+    rw e (refl,
+    (answer-offsets (a .w) (a .h) (a .s) (a .tolerance) (a .n) (a .r) (a .percentiles .now) (a .rasters .now) (a .offsets .now) (pairs .last .1 .1 .1 .1 .1 .1 .1 .1 .0) (c .before .sum-about .last .0) (a .counts .now) (pairs .last .1 .1 .1 .1 .1 .1 .1 .1 .1 .0) (o .reference) (o .room1) (pairs .ensures) (c .before .sum-about .ensures),
+    (answer-counts (a .w) (a .h) (a .s) (a .tolerance) (a .n) (a .r) (a .percentiles .now) (a .rasters .now) (a .offsets .now) (pairs .last .1 .1 .1 .1 .1 .1 .1 .1 .0) (a .counts .now) (pairs .last .1 .1 .1 .1 .1 .1 .1 .1 .1 .0) (pairs .ensures),
+    λ f. absurd (f refl))))
 
 pub series-spec : {M : Type 1} → statement M
 series-spec =
