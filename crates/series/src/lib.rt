@@ -1,6 +1,7 @@
 // Alignment of a series: the offered call.
 
 pub mod runs;
+pub mod twice;
 
 use lending::series_refusal;
 use offsets::sum_about;
