@@ -1,22 +1,21 @@
 -- Demand 3 of what the call writes, from the call's contract and the theorem about the definitions.
-use mathlib.Core.Path.{_≡_, refl, sym, ap, subst, _∙_}
-use mathlib.Core.List.{List, _++_}
-use Prim.Native.Nat.{ℕ, zero, suc, _+_, _*_, _-_, _≤_, _<_}
+use mathlib.Core.Path.{_≡_, sym, ap, subst, _∙_}
+use mathlib.Core.List.{List}
+use Prim.Native.Nat.{ℕ, _+_, _*_, _-_}
 use native.Mathlib.Nat.{mul-comm}
 use native.Mathlib.Omega.{arith}
 use lib.IntN.{ℤ}
 use lib.ListN.{length, take, drop, getD}
 use lib.Seq.{take-at}
-use Rattle.rules.specs.declared.Offset.{Offset}
 use Rattle.rules.specs.declared.Written.{Written}
 use Rattle.rules.specs.Answers.{written, lent}
 use Rattle.rules.specs.Levels.{wardOrder, byTolerance, Aligned, pair}
 use Rattle.rules.specs.Refusals.{seriesRefusal}
-use Rattle.rules.specs.Series.{Settings, greyOf, pairOf, frameOffset, Answer, answerOf, answerBy, seriesAnswer}
+use Rattle.rules.specs.Series.{Settings, greyOf, pairOf, frameOffset, answerOf, answerBy, seriesAnswer}
 use Rattle.rules.specs.Calls.{settings}
 use Rattle.rules.proofs.BoundLaws.{length-offsets}
 use Rattle.rules.proofs.AlignmentLaws.{SeriesOk, series-ok}
-use Rattle.reexposure.specs.Reexposure.{Reexposed, Bytes, Sound, Bounded, Alike}
+use Rattle.reexposure.specs.Reexposure.{Bytes, Sound, Bounded, Alike}
 use Rattle.reexposure.proofs.Theorem.{demand3}
 use Rattle.align.proofs.AlignLaws.{counts-length}
 use Rattle.series.specs.Demand.{packedAnswer, Given, Demanded}

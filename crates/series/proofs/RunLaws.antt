@@ -1,8 +1,7 @@
 -- Laws of the runs: the places of the greys, the slots of the offsets, the places of the counts.
 use mathlib.Core.Path.{_≡_, refl, sym, ap, ap₂, subst, _∙_}
 use mathlib.Core.Logic.{_⊎_, inl, inr, ⊎-elim}
-use mathlib.Core.Bool.{cond}
-use mathlib.Core.List.{List, [], _∷_, _++_}
+use mathlib.Core.List.{List, _++_}
 use Prim.Native.Nat.{ℕ, zero, suc, _+_, _*_, _-_, _/_, _%_, _^_, _≤_, _<_}
 use native.Mathlib.Nat.{zero-add, zero-mul, one-mul, suc-mul, mul-comm, mul-le-mul-right}
 use native.Mathlib.Numerals.{add-one}
@@ -14,9 +13,9 @@ use lib.Pow.{pow-mono}
 use borrow.Rule.Slice.PartAt.{part-to-end}
 use mir.Syntax.{w32}
 use mir.Val.{toZ, ofZ}
-use borrow.Author.Tests.{eq-eqb, ne-eqb, lt-ltb, le-ltb}
+use borrow.Author.Tests.{eq-eqb, ne-eqb}
 use Rattle.rules.specs.declared.Offset.{Offset}
-use Rattle.rules.specs.Frames.{Frame, frameOf, writtenOver}
+use Rattle.rules.specs.Frames.{frameOf, writtenOver}
 use Rattle.rules.specs.Greys.{greyFrame}
 use Rattle.rules.specs.Levels.{wardOrder, byTolerance, Aligned, pair}
 use Rattle.rules.specs.Refusals.{greyNeeded}
@@ -33,7 +32,7 @@ use Rattle.frame.proofs.PlaceLaws.{row-join}
 use Rattle.align.specs.Aligns.{Frames, Aligns, alignedIn}
 use Rattle.align.proofs.AlignLaws.{counts-length}
 use Rattle.offsets.specs.Held.{slotOf, heldAt, Summed}
-use Rattle.offsets.proofs.SlotLaws.{Put, put, summed-list}
+use Rattle.offsets.proofs.SlotLaws.{slot-below, slot-above, slot-le, Put, put, summed-list}
 use Rattle.series.specs.Runs.{placeOf, frameAt, Stands, pairAt, pairsOf, Room, Ran, Run, Paired}
 
 -- The two places.
@@ -132,22 +131,7 @@ row-written l before after room r = ext-getD 0 after (writtenOver l before) leng
         ∙ sym (getD-append-add l (drop n before) (i - n) 0)
         ∙ ap (λ (j : ℕ). getD (writtenOver l before) j 0) e
 
--- Slots.
-pub slot-below : (r j : ℕ) → j < r → slotOf r j ≡ j
-unfolding slotOf
-slot-below r j l = rw (lt-ltb j r l)
-
-pub slot-above : (r j : ℕ) → r ≤ j → slotOf r j ≡ j + 1
-unfolding slotOf
-slot-above r j l = rw (le-ltb j r l)
-
-pub slot-le : (r k : ℕ) → slotOf r k ≤ k + 1
-slot-le r k =
-    ⊎-elim
-    (λ (l : k < r). let e = slot-below r k l in omega arith)
-    (λ (l : r ≤ k). let e = slot-above r k l in omega arith)
-    (order k r)
-
+-- A later pair has a later slot.
 slot-order : (r j k : ℕ) → j < k → slotOf r j < slotOf r k
 slot-order r j k l =
     ⊎-elim

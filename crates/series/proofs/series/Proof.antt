@@ -1,5 +1,6 @@
 -- A refused call answers its number and touches nothing; an accepted one has the sizes that the pairs require, and their offsets summed are the answer.
 use mathlib.Core.Path.{refl, sym, _∙_}
+use native.Mathlib.Omega.{arith}
 use lib.ListN.{length}
 use borrow.Author.Needs.{needs}
 use Rattle.rules.proofs.RefusalLaws.{written-refused, lent-refused}
@@ -32,9 +33,10 @@ sum-about-requires : tie.Need-sum-about-requires
 sum-about-requires c κs =
     let a = c .before .before .before .before .before .before .before .before .before .before .before .before .before .before .before .before .before .before .before .before .args in
     let o = accepted (c .before .before .before .before .before .before .before .before .before .before .before .before .before) in
-    let pairs = c .before .before .before .before .before .before .before .before .align-pairs in
-    ((o .reference, o .frames .1, rw (pairs .ensures .len) (o .room1)),
-    pairs-small (a .w) (a .h) (a .s) (a .tolerance) (a .n) (a .r) (a .percentiles .now) (a .rasters .now) (pairs .last .1 .1 .1 .1 .1 .1 .1 .1 .0) (o .shape .halvings) (o .reference) (pairs .ensures .held))
+    let pairs = c .before .before .before .before .before .before .before .before .align-pairs in (
+      (omega arith, o .frames .1, rw (pairs .ensures .len) (o .room1)),
+      pairs-small (a .w) (a .h) (a .s) (a .tolerance) (a .n) (a .r) (a .percentiles .now) (a .rasters .now) (pairs .last .1 .1 .1 .1 .1 .1 .1 .1 .0) (o .shape .halvings) (o .reference) (pairs .ensures .held),
+    )
 
 same-length : tie.Need-same-length
 same-length c = search needs
@@ -55,10 +57,16 @@ returns-2 c =
     let o = accepted taken in
     let pairs = c .before .before .before .before .before .before .before .before .before .before .align-pairs in
     let e = sym (taken .before .series-refusal .ensures) ∙ taken .if1 .left in
-    rw e (refl,
-    (answer-offsets (a .w) (a .h) (a .s) (a .tolerance) (a .n) (a .r) (a .percentiles .now) (a .rasters .now) (a .offsets .now) (pairs .last .1 .1 .1 .1 .1 .1 .1 .1 .0) (c .before .sum-about .last .0) (a .counts .now) (pairs .last .1 .1 .1 .1 .1 .1 .1 .1 .1 .0) (o .reference) (o .room1) (pairs .ensures) (c .before .sum-about .ensures),
-    (answer-counts (a .w) (a .h) (a .s) (a .tolerance) (a .n) (a .r) (a .percentiles .now) (a .rasters .now) (a .offsets .now) (pairs .last .1 .1 .1 .1 .1 .1 .1 .1 .0) (a .counts .now) (pairs .last .1 .1 .1 .1 .1 .1 .1 .1 .1 .0) (pairs .ensures),
-    λ f. absurd (f refl))))
+    rw e (
+      refl,
+      (
+        answer-offsets (a .w) (a .h) (a .s) (a .tolerance) (a .n) (a .r) (a .percentiles .now) (a .rasters .now) (a .offsets .now) (pairs .last .1 .1 .1 .1 .1 .1 .1 .1 .0) (c .before .sum-about .last .0) (a .counts .now) (pairs .last .1 .1 .1 .1 .1 .1 .1 .1 .1 .0) (o .reference) (o .room1) (pairs .ensures) (c .before .sum-about .ensures),
+        (
+          answer-counts (a .w) (a .h) (a .s) (a .tolerance) (a .n) (a .r) (a .percentiles .now) (a .rasters .now) (a .offsets .now) (pairs .last .1 .1 .1 .1 .1 .1 .1 .1 .0) (a .counts .now) (pairs .last .1 .1 .1 .1 .1 .1 .1 .1 .1 .0) (pairs .ensures),
+          λ f. absurd (f refl),
+        ),
+      ),
+    )
 
 pub series-spec : {M : Type 1} → statement M
 series-spec =

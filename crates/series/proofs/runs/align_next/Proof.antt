@@ -1,11 +1,12 @@
 -- Frame k + 1's grey goes into the place that frame k's leaves free; the answers name what the three parts leave and cite a law over plain lists.
 use native.Mathlib.Omega.{arith}
-use mathlib.Core.Path.{refl, sym, _∙_}
+use mathlib.Core.Path.{refl}
 use Prim.Native.Nat.{_+_, _*_, _-_, _≤_}
 use lib.ListN.{length, take, drop, length-set}
 use borrow.Author.Needs.{needs}
 use borrow.Rule.Slice.PartAt.{part-to-end}
-use Rattle.series.proofs.RunLaws.{place-room, frames-at, part-room, slot-le, ran}
+use Rattle.series.proofs.RunLaws.{place-room, frames-at, part-room, ran}
+use Rattle.offsets.proofs.SlotLaws.{slot-le}
 use Rattle.series.proofs.runs.align_next.Statement.{statement}
 use Rattle.series.proofs.runs.align_next.Tie as tie
 

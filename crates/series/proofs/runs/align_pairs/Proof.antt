@@ -1,8 +1,8 @@
 -- The invariant: the pairs below k have run, frame k's grey stands in its place, and the work memory has its length. The measure is the frames left.
 use native.Mathlib.Omega.{arith}
-use mathlib.Core.Path.{_≡_, refl, sym, _∙_}
-use Prim.Native.Nat.{_+_, _*_, _-_, _≤_, _<_}
-use lib.ListN.{length, getD}
+use mathlib.Core.Path.{_≡_, refl, _∙_}
+use Prim.Native.Nat.{_+_, _-_, _≤_, _<_}
+use lib.ListN.{length}
 use borrow.Author.Needs.{needs}
 use Rattle.rules.proofs.AlignmentLaws.{SeriesOk, level-pixels-at}
 use Rattle.count.proofs.OnesLaws.{counts-ones}
@@ -37,12 +37,13 @@ loop-holds : tie.Need-loop-holds Inv-loop μ-loop
 loop-holds c =
     let b = c .before .before .before .before .before .before .before .before .before in
     let a = b .args in
-    let new = c .before .before .convert in
-    (let l = b .pre .frames .0 in omega arith,
-    run-none (a .w) (a .h) (a .s) (a .n) (a .r) (a .rasters .now) (pairsOf (a .w) (a .h) (a .s) (a .tolerance) (a .percentiles .now) (a .rasters .now)) (a .offsets .now) (a .counts .now) (new .last .1 .1 .0)
-    (first-stands-at (a .w) (a .h) (a .rasters .now) (a .grey .now) (new .last .1 .1 .0) (new .ensures)),
-    refl,
-    refl)
+    let new = c .before .before .convert in (
+      let l = b .pre .frames .0 in omega arith,
+      run-none (a .w) (a .h) (a .s) (a .n) (a .r) (a .rasters .now) (pairsOf (a .w) (a .h) (a .s) (a .tolerance) (a .percentiles .now) (a .rasters .now)) (a .offsets .now) (a .counts .now) (new .last .1 .1 .0)
+          (first-stands-at (a .w) (a .h) (a .rasters .now) (a .grey .now) (new .last .1 .1 .0) (new .ensures)),
+      refl,
+      refl,
+    )
 
 add-loop : tie.Need-add-loop Inv-loop μ-loop
 add-loop c = search needs
@@ -69,10 +70,11 @@ align-next-requires c κs =
     let l = c .before .before .before .before .before .before .before in
     let a = l .before .before .before .before .before .before .before .before .before .before .args in
     let o = accepted l in
-    let t : l .loop .k + 1 < a .n = c .before .before .before .before .before .before .loop-test .taken in
-    let k : l .loop .k < a .n - 1 = omega arith in
-    (room-at (a .w) (a .h) (a .s) (a .tolerance) (a .n) (a .r) (a .percentiles .now) (length (a .rasters .now)) (length (l .loop .offsets)) (length (l .loop .counts)) (length (l .loop .grey)) (length (l .loop .words)) (l .loop .k) o t,
-    (o .percentile (l .loop .k) k, (l .loop .inv .1 .stands, counts-ones)))
+    let t : l .loop .k + 1 < a .n = omega arith in
+    let k : l .loop .k < a .n - 1 = omega arith in (
+      room-at (a .w) (a .h) (a .s) (a .tolerance) (a .n) (a .r) (a .percentiles .now) (length (a .rasters .now)) (length (l .loop .offsets)) (length (l .loop .counts)) (length (l .loop .grey)) (length (l .loop .words)) (l .loop .k) o t,
+      (o .percentile (l .loop .k) k, (l .loop .inv .1 .stands, counts-ones)),
+    )
 
 add-k : tie.Need-add-k Inv-loop μ-loop
 add-k c = search needs
@@ -84,14 +86,15 @@ loop-again : tie.Need-loop-again Inv-loop μ-loop
 loop-again c =
     let l = c .before .before .before .before .before .before .before .before .before .before .before .before .before .before .before in
     let a = l .before .before .before .before .before .before .before .before .before .before .args in
-    let t : l .loop .k + 1 < a .n = c .before .before .before .before .before .before .before .before .before .before .before .before .before .before .loop-test .taken in
-    let next = c .before .before .before .before .before .before .before .align-next in
-    (omega arith,
-    run-more (a .w) (a .h) (a .s) (a .n) (a .r) (l .loop .k) (a .rasters .now) (pairsOf (a .w) (a .h) (a .s) (a .tolerance) (a .percentiles .now) (a .rasters .now))
-    (a .offsets .now) (l .loop .offsets) (next .last .1 .1 .1 .1 .1 .1 .1 .1 .0) (a .counts .now) (l .loop .counts) (next .last .1 .1 .1 .1 .1 .1 .1 .1 .1 .0) (l .loop .grey) (next .last .1 .1 .1 .1 .1 .1 .1 .1 .1 .1 .0)
-    (pair-sizes (a .w) (a .h) (a .s) (a .tolerance) (a .percentiles .now) (a .rasters .now)) t (l .loop .inv .1) (next .ensures),
-    next .kept .1 .1 .1 .1 .1 .1 .1 .1 .1 .1 .0 ∙ l .loop .inv .2,
-    next .kept .1 .1 .1 .1 .1 .1 .1 .1 .1 .1 .1 .0 ∙ l .loop .inv .3)
+    let t : l .loop .k + 1 < a .n = omega arith in
+    let next = c .before .before .before .before .before .before .before .align-next in (
+      omega arith,
+      run-more (a .w) (a .h) (a .s) (a .n) (a .r) (l .loop .k) (a .rasters .now) (pairsOf (a .w) (a .h) (a .s) (a .tolerance) (a .percentiles .now) (a .rasters .now))
+          (a .offsets .now) (l .loop .offsets) (next .last .1 .1 .1 .1 .1 .1 .1 .1 .0) (a .counts .now) (l .loop .counts) (next .last .1 .1 .1 .1 .1 .1 .1 .1 .1 .0) (l .loop .grey) (next .last .1 .1 .1 .1 .1 .1 .1 .1 .1 .1 .0)
+          (pair-sizes (a .w) (a .h) (a .s) (a .tolerance) (a .percentiles .now) (a .rasters .now)) t (l .loop .inv .1) (next .ensures),
+      next .kept .1 .1 .1 .1 .1 .1 .1 .1 .1 .1 .0 ∙ l .loop .inv .2,
+      next .kept .1 .1 .1 .1 .1 .1 .1 .1 .1 .1 .1 .0 ∙ l .loop .inv .3,
+    )
 
 same-length : tie.Need-same-length Inv-loop μ-loop
 same-length c = c .before .loop .inv .1 .len

@@ -1,7 +1,7 @@
 -- Each arm is the definition on its side of the reference.
 use mathlib.Core.Path.{sym}
 use borrow.Author.Needs.{needs}
-use Rattle.series.proofs.RunLaws.{slot-below, slot-above}
+use Rattle.offsets.proofs.SlotLaws.{slot-below, slot-above}
 use Rattle.series.proofs.runs.slot.Statement.{statement}
 use Rattle.series.proofs.runs.slot.Tie as tie
 
