@@ -1,0 +1,38 @@
+-- Demand 3 of document 00, about what the series call writes.
+use mathlib.Core.Path.{_≡_}
+use mathlib.Core.List.{List}
+use Prim.Native.Nat.{ℕ, _+_, _*_, _-_}
+use lib.IntN.{ℤ}
+use lib.ListN.{length, take}
+use Rattle.rules.specs.declared.Written.{Written}
+use Rattle.rules.specs.Series.{Settings, Answer, seriesAnswer}
+use Rattle.reexposure.specs.Reexposure.{Reexposed, Bounded}
+
+-- "Its packed answer is the offsets and counts that this call writes": of what the two buffers hold when it returns,
+-- the first 2·N offsets and 9·(s+1)·(N−1) counts.
+abbrev pub packedAnswer : Settings → List ℤ → List ℕ → Answer
+packedAnswer S offsets counts = record {
+  offsets = take (2 * S .frames) offsets;
+  counts = take (9 * (S .halvings + 1) * (S .frames - 1)) counts;
+}
+
+-- "Let F be any accepted series of N frames with s halvings, reference r and tolerance 0. Let F' be any series with the same sizes and settings in
+-- which, within each frame, any two pixels compare in grey (darker, equal, brighter) as they do in F": F's refusal number is 0, and F' is handed
+-- over with lent buffers of the same lengths.
+pub record Given (S : Settings) (F F′ : List ℕ) (number : ℕ) (offsets offsets′ : List ℤ) (counts counts′ : List ℕ) : Type 0 where
+  pub accepted : number ≡ 0
+  pub tolerance : S .tolerance ≡ 0
+  pub sizes : length F′ ≡ length F
+  pub room1 : length offsets′ ≡ length offsets
+  pub room2 : length counts′ ≡ length counts
+  pub alike : Reexposed S F F′
+
+-- "Then the packed answers for F and for F' are the same, and both equal the pixel-by-pixel answer for F': every offset and all 9·(s+1)·(N−1)
+-- counts. In both, frame k's offset is in size at most |k−r|·(2^(s+1)−1) on each axis." And "F' is accepted too".
+pub record Demanded (S : Settings) (F′ : List ℕ) (answer′ : Written) (packed packed′ : Answer) : Type 0 where
+  pub accepted : answer′ ≡ Written.Done
+  pub same : packed ≡ packed′
+  pub pixels : packed ≡ seriesAnswer S F′
+  pub pixels′ : packed′ ≡ seriesAnswer S F′
+  pub bound : Bounded S packed
+  pub bound′ : Bounded S packed′
