@@ -5,7 +5,7 @@ use Rattle.rules.specs.Refusals.{levelPixels}
 use Rattle.rules.proofs.AlignmentLaws.{level-pixels-step, level-pixels-fit}
 use native.Mathlib.Omega.{arith}
 use borrow.Author.Needs.{needs}
-use Prim.Native.Nat.{ℕ, _-_, _/_}
+use Prim.Native.Nat.{ℕ, _-_, _/_, _<_}
 use borrow.Fn.Kinds.{In}
 use borrow.Fn.PlainCycle.{Measures, is, falls, and}
 use Rattle.lending.proofs.level_pixels.Reads as level-pixels
