@@ -21,15 +21,15 @@ use Rattle.rules.proofs.SignedLaws.{sum-is, sum-bits-fit, difference-is, differ
 use Rattle.rules.proofs.SeriesLaws.{frame-at, frame-up, frame-down, frame-ext, offset-list}
 use Rattle.offsets.specs.Held.{offsetAt, slotOf, heldAt, Summed, Cleared, SummedFrom}
 
-slot-below : (r j : ℕ) → j < r → slotOf r j ≡ j
+pub slot-below : (r j : ℕ) → j < r → slotOf r j ≡ j
 unfolding slotOf
 slot-below r j l = rw (lt-ltb j r l)
 
-slot-above : (r j : ℕ) → r ≤ j → slotOf r j ≡ j + 1
+pub slot-above : (r j : ℕ) → r ≤ j → slotOf r j ≡ j + 1
 unfolding slotOf
 slot-above r j l = rw (le-ltb j r l)
 
-slot-le : (r j : ℕ) → slotOf r j ≤ j + 1
+pub slot-le : (r j : ℕ) → slotOf r j ≤ j + 1
 slot-le r j =
     ⊎-elim
     (λ (l : j < r). let e = slot-below r j l in omega arith)
