@@ -86,7 +86,7 @@ loop-again : tie.Need-loop-again Inv-loop μ-loop
 loop-again c =
     let l = c .before .before .before .before .before .before .before .before .before .before .before .before .before .before .before in
     let a = l .before .before .before .before .before .before .before .before .before .before .args in
-    let t : l .loop .k + 1 < a .n = omega arith in
+    let t : l .loop .k + 1 < a .n = omega (arith, c .before .before .before .before .before .before .before .before .before .before .before .before .before .before .loop-test .taken) in
     let next = c .before .before .before .before .before .before .before .align-next in (
       omega arith,
       run-more (a .w) (a .h) (a .s) (a .n) (a .r) (l .loop .k) (a .rasters .now) (pairsOf (a .w) (a .h) (a .s) (a .tolerance) (a .percentiles .now) (a .rasters .now))
