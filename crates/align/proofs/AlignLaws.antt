@@ -14,11 +14,11 @@ use Rattle.rules.specs.Frames.{Frame, frameOf}
 use Rattle.rules.specs.Greys.{halved}
 use Rattle.rules.specs.Levels.{still, added, wardOrder, byTolerance, chosen, Aligned, level, countAt, pair}
 use Rattle.rules.specs.Bitmaps.{rowWords}
-use Rattle.rules.proofs.FrameLaws.{RowAt, FrameAt, pixel-fits}
+use Rattle.rules.proofs.FrameLaws.{RowAt, FrameAt, pixel-fits, row-ext}
 use Rattle.rules.proofs.BoundLaws.{Near, near-add, near-more, near-pair, near-ward}
 use Rattle.rules.proofs.PairLaws.{SameFrame, halved-ext, count-ext, pair-ext}
 use Rattle.rules.proofs.AlignmentLaws.{level-pixels-step, level-pixels-at}
-use Rattle.frame.proofs.PlaceLaws.{row-join, row-ext}
+use Rattle.frame.proofs.PlaceLaws.{row-join}
 use Rattle.level.specs.Sides.{Sides}
 use Rattle.level.specs.Choices.{nineOf, Settled}
 use Rattle.align.specs.Aligns.{Frames, Aligns, alignedIn, countOf}

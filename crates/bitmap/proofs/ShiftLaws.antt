@@ -1,6 +1,5 @@
 -- Laws of the shift: a row's words from quotient and remainder, and all rows against document 01's shift.
 use mathlib.Core.Path.{_≡_, refl, sym, ap, ap₂, subst, _∙_}
-use mathlib.Core.Bool.{Bool, true, false}
 use mathlib.Core.Logic.{⊎-elim}
 use mathlib.Core.List.{List}
 use Prim.Native.Nat.{ℕ, _+_, _*_, _-_, _/_, _%_, _^_, _≤_, _<_}
@@ -15,7 +14,7 @@ use Rattle.rules.specs.Sums.{gate}
 use Rattle.rules.specs.Frames.{Frame, writtenOver}
 use Rattle.rules.specs.Planes.{within, shifted}
 use Rattle.rules.specs.Bitmaps.{bit, bitAt, rowWords, word, wordOf, packed}
-use Rattle.rules.proofs.SumLaws.{order, sum-zero}
+use Rattle.rules.proofs.SumLaws.{order, sum-zero, gate-zero}
 use Rattle.rules.proofs.FrameLaws.{RowAt, FrameAt, frame-written}
 use Rattle.words.specs.Rows.{rowBit, back, WordOf, bias, biasWords, biasOf}
 use Rattle.words.proofs.BitLaws.{word-is}
@@ -66,10 +65,6 @@ module _ (src : List ℕ) (w h q r e y : ℕ) where
   row-past l m k = sym (row-back l k ∙ gate-ge (bias + y - e) h (movedWord src ((bias + y - e) * rowWords w) w q r k) m)
 
 -- ---- against document 01's shift
-
-gate-zero : (t : Bool) → gate t 0 ≡ 0
-gate-zero true = refl
-gate-zero false = refl
 
 within-zero : (n : ℕ) (z : ℤ) → within n z (λ k. 0) ≡ 0
 unfolding within

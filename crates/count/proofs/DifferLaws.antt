@@ -17,7 +17,7 @@ use Rattle.rules.specs.Bitmaps.{bit, bitAt, rowWords}
 use Rattle.rules.specs.Planes.{within}
 use Rattle.rules.specs.Differences.{differ as differPixels, differAt, difference}
 use Rattle.rules.specs.Calls.{planesOf}
-use Rattle.rules.proofs.SumLaws.{order, gate-le, sum-ext, sum-zero}
+use Rattle.rules.proofs.SumLaws.{order, gate-le, sum-ext, sum-zero, gate-zero}
 use Rattle.count.specs.declared.differences.Move.{Move}
 use Rattle.words.specs.Rows.{WordOf, rowBit, back, bias, biasWords, biasOf}
 use Rattle.words.proofs.BitLaws.{bit-lt, bit-and, bit-or, bit-xor, bit-shr, bit-above, bit-zero, bit-shl64-high, bit-shl64-low}
@@ -231,10 +231,6 @@ unfolding rowDiffer
 rowDiffer-past t1 e1 t2 e2 base from w d x l =
     ap (λ (n : ℕ). disagree (rowBit t1 base w x) n (movedBit t2 from w d x) (movedBit e2 from w d x)) (row-past e1 base w x l)
     ∙ disagree-left (rowBit t1 base w x) (movedBit t2 from w d x) (movedBit e2 from w d x)
-
-gate-zero : (t : Bool) → gate t 0 ≡ 0
-gate-zero true = refl
-gate-zero false = refl
 
 within-none : (n : ℕ) (z : ℤ) → within n z (λ k. 0) ≡ 0
 unfolding within

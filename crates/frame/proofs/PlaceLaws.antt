@@ -10,7 +10,7 @@ use lib.Seq.{getD-set-same, getD-set-other}
 use Rattle.rules.specs.Frames.{frameOf}
 use Rattle.rules.specs.Greys.{halved}
 use Rattle.rules.proofs.SumLaws.{order}
-use Rattle.rules.proofs.FrameLaws.{RowAt, FrameAt, frame-more, pixel-fits}
+use Rattle.rules.proofs.FrameLaws.{RowAt, FrameAt, frame-more, pixel-fits, row-ext}
 use Rattle.rules.proofs.GreyLaws.{second-columns}
 use Rattle.frame.specs.Places.{lowAt, highAt, secondAt, evenAt, itemAt, halfAt, Filled}
 
@@ -76,11 +76,6 @@ row-join to f g before mid after k m a b same = record {
         let d : k + (i - k) ≡ i = omega arith in
         let e : to + i ≡ to + k + (i - k) = omega arith in
         ap (λ (j : ℕ). getD after j 0) e ∙ b .done (i - k) (omega arith) ∙ same (i - k) (omega arith) ∙ ap f d
-
--- A row known by another rule with the same numbers.
-pub row-ext : (to : ℕ) (f g : ℕ → ℕ) (before after : List ℕ) (n : ℕ) → ((k : ℕ) → k < n → f k ≡ g k)
-    → RowAt to f before n after → RowAt to g before n after
-row-ext to f g before after n same r = record { len = r .len; under = r .under; done = λ k l. r .done k l ∙ same k l; over = r .over }
 
 -- one more block of a row
 pub block-more : (l block before mid after : List ℕ) (top bottom to b : ℕ)

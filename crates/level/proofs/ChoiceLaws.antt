@@ -5,13 +5,10 @@ use Prim.Native.Nat.{ℕ}
 use native.Mathlib.Omega.{arith}
 use Rattle.rules.specs.declared.Offset.{Offset}
 use Rattle.rules.specs.Levels.{wardOrder, added, chosen}
-use Rattle.rules.proofs.FrameLaws.{RowAt}
+use Rattle.rules.proofs.FrameLaws.{RowAt, row-ext}
 use Rattle.rules.proofs.LevelLaws.{candidateAt, chosen-is}
 use Rattle.candidates.specs.Leading.{Leading}
 use Rattle.level.specs.Choices.{nineOf, Settled}
-
-row-ext : (to : ℕ) (f g : ℕ → ℕ) (before : List ℕ) (n : ℕ) (after : List ℕ) → ((k : ℕ) → f k ≡ g k) → RowAt to f before n after → RowAt to g before n after
-row-ext to f g before n after e r = record { len = r .len; under = r .under; done = λ k l. r .done k l ∙ e k; over = r .over }
 
 -- the place of the first least count is that of the first candidate with the least
 chosen-at : (count : Offset → ℕ) (centre : Offset) (at : ℕ) (before after : List ℕ) (best : ℕ)
@@ -29,5 +26,5 @@ pub settled : (count same : Offset → ℕ) (centre : Offset) (at : ℕ) (before
     → ((m : Offset) → count m ≡ same m) → RowAt at (nineOf count centre) before 9 after → Leading after at 9 best → r ≡ candidateAt centre best
     → Settled same centre at before after r
 settled count same centre at before after best r e written p o =
-    let s : RowAt at (nineOf same centre) before 9 after = row-ext at (nineOf count centre) (nineOf same centre) before 9 after (λ k. e (candidateAt centre k)) written in
+    let s : RowAt at (nineOf same centre) before 9 after = row-ext at (nineOf count centre) (nineOf same centre) before after 9 (λ k l. e (candidateAt centre k)) written in
     record { offset = o ∙ chosen-at same centre at before after best s p; counts = s }

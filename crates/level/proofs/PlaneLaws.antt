@@ -1,28 +1,26 @@
 -- Laws of the bitmaps that stand in lent words.
 use mathlib.Core.Path.{_≡_, refl, sym, ap, ap₂, _∙_}
-use mathlib.Core.Bool.{Bool, true, false, _&&_}
+use mathlib.Core.Bool.{Bool, _&&_}
 use mathlib.Core.Logic.{⊎-elim}
 use mathlib.Core.List.{List}
 use Prim.Native.Nat.{ℕ, _+_, _*_, _-_, _/_, _%_, _≤_, _<_, min}
 use native.Mathlib.Nat.{add-assoc, add-mul, mul-comm}
 use native.Mathlib.Omega.{arith}
-use lib.Dec.{ltb, leb}
+use lib.Dec.{ltb}
 use lib.ListN.{length, getD, take, drop, length-take, length-drop}
 use lib.Seq.{getD-take, getD-drop}
 use borrow.Author.Tests.{lt-ltb}
-use Rattle.rules.specs.Limits.{maxGrey}
-use Rattle.rules.specs.Sums.{gate, oneIf}
+use Rattle.rules.specs.Sums.{gate}
 use Rattle.rules.specs.Frames.{Frame, frameOf}
-use Rattle.rules.specs.Thresholds.{atMost, reaches, threshold}
+use Rattle.rules.specs.Thresholds.{threshold}
 use Rattle.rules.specs.Planes.{thresholdBit, exclusionBit, bitsBy}
 use Rattle.rules.specs.Bitmaps.{rowWords, bit, bitAt, word, wordOf}
 use Rattle.rules.specs.Differences.{Planes}
 use Rattle.rules.specs.Levels.{byTolerance, planesBy, countAt}
 use Rattle.rules.specs.Calls.{planesOf}
 use Rattle.rules.specs.declared.Offset.{Offset}
-use Rattle.rules.proofs.SumLaws.{order, pixels-ext}
+use Rattle.rules.proofs.SumLaws.{order, gate-small}
 use Rattle.rules.proofs.FrameLaws.{RowAt, row-fits, pixel-fits}
-use Rattle.rules.proofs.ThresholdLaws.{least-ext}
 use Rattle.rules.proofs.DifferenceLaws.{SamePlanes, difference-ext}
 use Rattle.words.proofs.BitLaws.{word-bit}
 use Rattle.threshold.specs.Flat.{thresholdIn}
@@ -30,15 +28,7 @@ use Rattle.threshold.proofs.FlatLaws.{threshold-flat}
 use Rattle.pack.specs.Outside.{outsideBit, outsidePlane, outsideWord}
 use Rattle.pack.proofs.OutsideLaws.{outside-lt, threshold-plane, exclusion-plane}
 use Rattle.level.specs.Places.{planesAt, BothAt, PackedAt, wordsCount}
-
--- A threshold sees a frame only at its pixels.
-threshold-ext : (w h percentile : ℕ) (f g : Frame) → ((x y : ℕ) → x < w → y < h → f x y ≡ g x y)
-    → threshold w h percentile f ≡ threshold w h percentile g
-unfolding threshold reaches atMost
-threshold-ext w h percentile f g e =
-    least-ext maxGrey (reaches w h percentile f) (reaches w h percentile g)
-    (λ v m. ap (λ (n : ℕ). leb (percentile * (w * h)) (100 * n))
-    (pixels-ext w h (λ x y. oneIf (leb (f x y) v)) (λ x y. oneIf (leb (g x y) v)) (λ x y k l. ap (λ (a : ℕ). oneIf (leb a v)) (e x y k l))))
+use Rattle.rules.proofs.PairLaws.{threshold-ext}
 
 -- The part of a list that holds a frame, whatever stands after it: its length, and its threshold.
 module _ (w h from : ℕ) (grey : List ℕ) (room : from + w * h ≤ length grey) where
@@ -50,12 +40,9 @@ module _ (w h from : ℕ) (grey : List ℕ) (room : from + w * h ≤ length grey
   part-threshold percentile =
       let part : List ℕ = take (from + w * h - from) (drop from grey) in
       threshold-flat w h percentile part part-length
-      ∙ threshold-ext w h percentile (frameOf w part) (frameOf w (drop from grey))
+      ∙ threshold-ext w h (frameOf w part) (frameOf w (drop from grey))
       (λ x y k l. getD-take (from + w * h - from) (drop from grey) (y * w + x) 0 (let a = pixel-fits w h x y k l in omega arith))
-
-gate-lt : (t : Bool) (n : ℕ) → n < 2 → gate t n < 2
-gate-lt true n l = l
-gate-lt false n l = omega arith
+      percentile
 
 -- the places of earlier rows lie before row y, and those of row y before its end
 row-before : (n y x z : ℕ) → x < n → z < y → z * n + x < y * n
@@ -131,7 +118,7 @@ bits-packed w h to f words small done x y k l =
     let e : x / 64 * 64 + x % 64 ≡ x = omega arith in
     ap₂ (λ (s t : Bool). gate (s && t) (bit (getD (drop to words) (y * rowWords w + x / 64) 0) (x % 64))) (lt-ltb x w k) (lt-ltb y h l)
     ∙ ap (λ (v : ℕ). bit v (x % 64)) (getD-drop to words (y * rowWords w + x / 64) 0 ∙ done (x / 64) y (omega arith) l)
-    ∙ word-bit (λ i. gate (ltb (x / 64 * 64 + i) w) (f (x / 64 * 64 + i) y)) (λ i m. gate-lt (ltb (x / 64 * 64 + i) w) (f (x / 64 * 64 + i) y) (small (x / 64 * 64 + i) y)) (x % 64) (omega arith)
+    ∙ word-bit (λ i. gate (ltb (x / 64 * 64 + i) w) (f (x / 64 * 64 + i) y)) (λ i m. gate-small (ltb (x / 64 * 64 + i) w) (f (x / 64 * 64 + i) y) (small (x / 64 * 64 + i) y)) (x % 64) (omega arith)
     ∙ ap (λ (j : ℕ). gate (ltb j w) (f j y)) e
     ∙ ap (λ (t : Bool). gate t (f x y)) (lt-ltb x w k)
 

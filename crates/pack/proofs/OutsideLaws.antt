@@ -14,7 +14,7 @@ use Rattle.rules.specs.Sums.{gate, oneIf}
 use Rattle.rules.specs.Frames.{Frame, frameOf, writtenOver}
 use Rattle.rules.specs.Planes.{thresholdBit, distance, exclusionBit, bitsBy}
 use Rattle.rules.specs.Bitmaps.{rowWords, word, wordOf, packed}
-use Rattle.rules.proofs.SumLaws.{order}
+use Rattle.rules.proofs.SumLaws.{order, gate-small}
 use Rattle.rules.proofs.FrameLaws.{RowAt, row-more, FrameAt, frame-more, frame-written, row-fits}
 use Rattle.words.proofs.BitLaws.{word-ext}
 use Rattle.pack.proofs.CaseLaws.{compared}
@@ -70,13 +70,9 @@ pub outside-lt : (lo hi v : ℕ) → outsideBit lo hi v < 2
 unfolding outsideBit
 outside-lt lo hi v = one-if-lt (ltb v lo || ltb hi v)
 
-gate-lt : (t : Bool) (n : ℕ) → n < 2 → gate t n < 2
-gate-lt true n l = l
-gate-lt false n l = omega arith
-
 pub flag-lt : (lo hi : ℕ) (grey : List ℕ) (at n i : ℕ) → flagAt lo hi grey at n i < 2
 unfolding flagAt
-flag-lt lo hi grey at n i = gate-lt (ltb i n) (outsideBit lo hi (getD grey (at + i) 0)) (outside-lt lo hi (getD grey (at + i) 0))
+flag-lt lo hi grey at n i = gate-small (ltb i n) (outsideBit lo hi (getD grey (at + i) 0)) (outside-lt lo hi (getD grey (at + i) 0))
 
 pub flag-in : (lo hi : ℕ) (grey : List ℕ) (at n i : ℕ) → i < n → flagAt lo hi grey at n i ≡ outsideBit lo hi (getD grey (at + i) 0)
 unfolding flagAt

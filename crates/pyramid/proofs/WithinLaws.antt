@@ -7,9 +7,9 @@ use lib.ListN.{length, getD, drop}
 use lib.Seq.{getD-drop}
 use Rattle.rules.specs.Frames.{frameOf}
 use Rattle.rules.specs.Greys.{halved}
-use Rattle.rules.proofs.FrameLaws.{RowAt, FrameAt}
+use Rattle.rules.proofs.FrameLaws.{RowAt, FrameAt, row-ext}
 use Rattle.frame.specs.Places.{halfAt, itemAt, Filled, RowFits}
-use Rattle.frame.proofs.PlaceLaws.{block-more, rest-more, row-ext, half-more, rows-fit}
+use Rattle.frame.proofs.PlaceLaws.{block-more, rest-more, half-more, rows-fit}
 
 -- Lists that agree under a place have the same results of rows that end there.
 pub half-under : (before after : List ℕ) (to top bottom k : ℕ)

@@ -1,15 +1,13 @@
 -- Frames that go together have the same pair answer, for any order of the candidates and any fair exclusion rule; and series with the same pair answers the same answer.
 use mathlib.Core.Path.{_≡_, refl, ap, ap₂}
-use mathlib.Core.Bool.{Bool, true, false, cond}
 use mathlib.Core.List.{List, [], _∷_, _++_}
-use Prim.Native.Nat.{ℕ, zero, suc, _+_, _-_, _≤_, _<_}
+use Prim.Native.Nat.{ℕ, zero, suc, _-_, _≤_, _<_}
 use native.Mathlib.Omega.{arith}
-use lib.Dec.{leb}
 use lib.IntN.{ℤ}
-use borrow.Author.Tests.{leb-true, leb-false}
 use Rattle.rules.specs.declared.Offset.{Offset}
-use Rattle.rules.specs.Levels.{added, Exclusion, Aligned}
-use Rattle.rules.specs.Series.{sumFrom, opposite, frameOffset, offsetList, countList, answerOf}
+use Rattle.rules.specs.Levels.{Exclusion, Aligned}
+use Rattle.rules.specs.Series.{frameOffset, offsetList, countList, answerOf}
+use Rattle.rules.proofs.SeriesLaws.{frame-ext}
 use Rattle.rules.proofs.PairLaws.{Kept}
 use Rattle.reexposure.proofs.Links.{Link, Linked, link-halve, Fair, same-planes}
 
@@ -21,19 +19,6 @@ linked-kept exclusion percentile fair some most Q link = record {
 }
 
 -- A series' answer sees only the answers of its pairs.
-sum-from-ext : (d e : ℕ → Offset) (a n : ℕ) → ((k : ℕ) → k < a + n → d k ≡ e k) → sumFrom d a n ≡ sumFrom e a n
-unfolding sumFrom
-sum-from-ext d e a zero same = refl
-sum-from-ext d e a (suc n) same = ap₂ added (sum-from-ext d e a n (λ k l. same k (omega arith))) (same (a + n) (omega arith))
-
-frame-offset-ext : (d e : ℕ → Offset) (n r k : ℕ) → r ≤ n → k ≤ n → ((j : ℕ) → j < n → d j ≡ e j) → frameOffset d r k ≡ frameOffset e r k
-unfolding frameOffset
-frame-offset-ext d e n r k l m same = split (leb r k) refl
-  where
-    split : (t : Bool) → leb r k ≡ t → cond t (sumFrom d r (k - r)) (opposite (sumFrom d k (r - k))) ≡ cond t (sumFrom e r (k - r)) (opposite (sumFrom e k (r - k)))
-    split true t = let p = leb-true r k t in sum-from-ext d e r (k - r) (λ j i. same j (omega arith))
-    split false t = let p = leb-false r k t in ap opposite (sum-from-ext d e k (r - k) (λ j i. same j (omega arith)))
-
 offset-list-ext : (n : ℕ) (f g : ℕ → Offset) → ((k : ℕ) → k < n → f k ≡ g k) → offsetList n f ≡ offsetList n g
 unfolding offsetList
 offset-list-ext zero f g same = refl
@@ -51,5 +36,5 @@ unfolding answerOf
 answer-ext n r f g l same =
     ap₂ (λ (o : List ℤ) (c : List ℕ). record { offsets = o; counts = c })
     (offset-list-ext n (frameOffset (λ k. f k .offset) r) (frameOffset (λ k. g k .offset) r)
-    (λ k m. frame-offset-ext (λ j. f j .offset) (λ j. g j .offset) (n - 1) r k (omega arith) (omega arith) (λ j i. ap (λ (a : Aligned). a .offset) (same j i))))
+    (λ k m. frame-ext (λ j. f j .offset) (λ j. g j .offset) r k (λ j a b. ap (λ (x : Aligned). x .offset) (same j (omega arith)))))
     (count-list-ext (n - 1) f g same)

@@ -133,6 +133,11 @@ row-more to f before n after v room r e = record {
         ∙ getD-set-same after (to + n) v 0 (let a = r .len in omega arith)
         ∙ e ∙ ap f (sym d)
 
+-- A row known by another rule with the same numbers.
+pub row-ext : (to : ℕ) (f g : ℕ → ℕ) (before after : List ℕ) (n : ℕ) → ((k : ℕ) → k < n → f k ≡ g k)
+    → RowAt to f before n after → RowAt to g before n after
+row-ext to f g before after n same r = record { len = r .len; under = r .under; done = λ k l. r .done k l ∙ same k l; over = r .over }
+
 -- What a loop over rows keeps: the first y rows of w numbers from place `to` on are the frame's, and nothing else has changed.
 pub record FrameAt (to w : ℕ) (f : Frame) (before : List ℕ) (y : ℕ) (after : List ℕ) : Type 0 where
   pub len : length after ≡ length before

@@ -43,7 +43,7 @@ module _ (order : List Offset) (exclusion : Exclusion) (percentile : ℕ) (K L :
 abbrev pub SameFrame : ℕ → ℕ → Frame → Frame → Type 0
 SameFrame w h f g = (x y : ℕ) → x < w → y < h → f x y ≡ g x y
 
-threshold-ext : (w h : ℕ) (f g : Frame) → SameFrame w h f g → (p : ℕ) → threshold w h p f ≡ threshold w h p g
+pub threshold-ext : (w h : ℕ) (f g : Frame) → SameFrame w h f g → (p : ℕ) → threshold w h p f ≡ threshold w h p g
 unfolding threshold reaches atMost
 threshold-ext w h f g e p =
     ap (least maxGrey)

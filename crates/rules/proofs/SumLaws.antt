@@ -17,6 +17,14 @@ pub gate-le : (t : Bool) (n : ℕ) → gate t n ≤ n
 gate-le true n = le-refl n
 gate-le false n = omega arith
 
+pub gate-small : (t : Bool) (n : ℕ) → n < 2 → gate t n < 2
+gate-small true n l = l
+gate-small false n l = omega arith
+
+pub gate-zero : (t : Bool) → gate t 0 ≡ 0
+gate-zero true = refl
+gate-zero false = refl
+
 pub sum-none : (f : ℕ → ℕ) → sum 0 f ≡ 0
 unfolding sum
 sum-none f = refl

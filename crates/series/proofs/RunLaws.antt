@@ -8,7 +8,7 @@ use native.Mathlib.Numerals.{add-one}
 use native.Mathlib.Omega.{arith}
 use lib.IntN.{ℤ, pos, natAbs}
 use lib.ListN.{length, getD, take, drop, set, length-append, length-drop, List·getD-append}
-use lib.Seq.{getD-append-add, getD-drop, ext-getD}
+use lib.Seq.{getD-append-add, getD-drop}
 use lib.Pow.{pow-mono}
 use borrow.Rule.Slice.PartAt.{part-to-end}
 use mir.Syntax.{w32}
@@ -17,7 +17,7 @@ use borrow.Author.Tests.{eq-eqb, ne-eqb}
 use Rattle.rules.specs.declared.Offset.{Offset}
 use Rattle.rules.specs.Frames.{frameOf, writtenOver}
 use Rattle.rules.specs.Greys.{greyFrame}
-use Rattle.rules.specs.Levels.{wardOrder, byTolerance, Aligned, pair}
+use Rattle.rules.specs.Levels.{wardOrder, byTolerance, Aligned}
 use Rattle.rules.specs.Refusals.{greyNeeded}
 use Rattle.rules.specs.Series.{greyOf, pairOf, countList, answerOf, answerBy, seriesAnswer}
 use Rattle.rules.specs.Calls.{settings}
@@ -31,6 +31,7 @@ use Rattle.frame.specs.Places.{greyAt}
 use Rattle.frame.proofs.PlaceLaws.{row-join}
 use Rattle.align.specs.Aligns.{Frames, Aligns, alignedIn}
 use Rattle.align.proofs.AlignLaws.{counts-length}
+use Rattle.align.proofs.PairCallLaws.{converted, row-written}
 use Rattle.offsets.specs.Held.{slotOf, heldAt, Summed}
 use Rattle.offsets.proofs.SlotLaws.{slot-below, slot-above, slot-le, Put, put, summed-list}
 use Rattle.series.specs.Runs.{placeOf, frameAt, Stands, pairAt, pairsOf, Room, Ran, Run, Paired}
@@ -58,12 +59,6 @@ place-apart k area =
     by-parity ((placeOf k area + area ≤ placeOf (k + 1) area) ⊎ (placeOf (k + 1) area + area ≤ placeOf k area)) k
     (λ e o. let p = place-even k area e in let q = place-odd (k + 1) area (λ z. omega arith) in inl (omega arith))
     (λ o e. let p = place-odd k area (λ z. omega arith) in let q = place-even (k + 1) area e in inr (omega arith))
-
--- A frame's grey, written flat.
-pub converted : (to w h : ℕ) (raster before after : List ℕ) → RowAt to (greyAt raster) before (w * h) after
-    → SameFrame w h (frameOf w (drop to after)) (greyFrame w raster)
-unfolding frameOf greyFrame greyAt
-converted to w h raster before after r x y k l = getD-drop to after (y * w + x) 0 ∙ r .done (y * w + x) (pixel-fits w h x y k l)
 
 -- A frame stays as its places stay.
 pub frame-kept : (from w h : ℕ) (before after : List ℕ) → ((m : ℕ) → from ≤ m → m < from + w * h → getD after m 0 ≡ getD before m 0)
@@ -106,30 +101,6 @@ module _ (each : ℕ) (pairs : ℕ → Aligned) (sizes : (j : ℕ) → length (p
           ap (λ (j : ℕ). getD (countList n pairs ++ pairs n .counts) j 0) e
           ∙ getD-append-add (countList n pairs) (pairs n .counts) i 0
           ∙ ap (λ (j : ℕ). getD (pairs j .counts) i 0) (sym d)
-
--- a list written at the beginning of a lent one
-pub row-written : (l before after : List ℕ) → length l ≤ length before → RowAt 0 (λ i. getD l i 0) before (length l) after → after ≡ writtenOver l before
-row-written l before after room r = ext-getD 0 after (writtenOver l before) lengths (λ i m. ⊎-elim (inside i) (outside i) (order i (length l)))
-  where
-    lengths : length after ≡ length (writtenOver l before)
-    lengths = r .len ∙ sym (length-append l (drop (length l) before) ∙ (let a = length-drop (length l) before in omega arith))
-
-    inside : (i : ℕ) → i < length l → getD after i 0 ≡ getD (writtenOver l before) i 0
-    inside i m =
-        let e : i ≡ 0 + i = omega arith in
-        ap (λ (j : ℕ). getD after j 0) e
-        ∙ r .done i m
-        ∙ sym (List·getD-append l (drop (length l) before) 0 i m)
-
-    outside : (i : ℕ) → length l ≤ i → getD after i 0 ≡ getD (writtenOver l before) i 0
-    outside i m =
-        let n = length l in
-        let e : n + (i - n) ≡ i = omega arith in
-        r .over i (omega arith)
-        ∙ ap (λ (j : ℕ). getD before j 0) (sym e)
-        ∙ sym (getD-drop n before (i - n) 0)
-        ∙ sym (getD-append-add l (drop n before) (i - n) 0)
-        ∙ ap (λ (j : ℕ). getD (writtenOver l before) j 0) e
 
 -- A later pair has a later slot.
 slot-order : (r j k : ℕ) → j < k → slotOf r j < slotOf r k
@@ -213,7 +184,7 @@ module _ (w h s r k percentile tolerance first second at slot : ℕ) (rasters pa
 
   second-stands : SameFrame w h (frameOf w (drop second grey1)) (frameAt w h rasters (k + 1))
   second-stands x y i j =
-      converted second w h part grey0 grey1 new x y i j
+      converted w h second part grey0 grey1 new x y i j
       ∙ ap (λ (l : List ℕ). greyFrame w l x y) e5
 
   answer-is : alignedIn first second w h s percentile tolerance grey1 ≡ pairAt w h s tolerance percentile rasters k
@@ -273,7 +244,7 @@ run-none w h s n r rasters pairs offsets counts grey stands = record {
 pub first-stands-at : (w h : ℕ) (rasters grey grey′ : List ℕ) → RowAt 0 (greyAt rasters) grey (w * h) grey′ → Stands w h rasters 0 grey′
 first-stands-at w h rasters grey grey′ new x y i j =
     ap (λ (p : ℕ). frameOf w (drop p grey′) x y) (place-even 0 (w * h) refl)
-    ∙ converted 0 w h rasters grey grey′ new x y i j
+    ∙ converted w h 0 rasters grey grey′ new x y i j
     ∙ ap (λ (p : ℕ). greyFrame w (drop p rasters) x y) (sym (zero-mul (3 * (w * h))))
 
 pub run-more : (w h s n r k : ℕ) (rasters : List ℕ) (pairs : ℕ → Aligned) (offsets offsets′ offsets″ : List ℤ) (counts counts′ counts″ grey′ grey″ : List ℕ)
@@ -322,7 +293,7 @@ run-all w h s n r k rasters pairs offsets offsets′ counts counts′ grey′ si
   len = a .len;
   held = λ j i. a .held j (omega arith);
   over = a .over;
-  written = row-written (countList (n - 1) pairs) counts counts′ (let b = size in let c = mul-comm (9 * (s + 1)) (n - 1) in omega arith) all;
+  written = row-written (countList (n - 1) pairs) counts counts′ (length (countList (n - 1) pairs)) refl (let b = size in let c = mul-comm (9 * (s + 1)) (n - 1) in omega arith) all;
 }
   where
     size : length (countList (n - 1) pairs) ≡ (n - 1) * (9 * (s + 1))
