@@ -15,7 +15,7 @@ use Rattle.rules.specs.Greys.{halved}
 use Rattle.rules.specs.Levels.{still, added, wardOrder, byTolerance, chosen, Aligned, level, countAt, pair}
 use Rattle.rules.specs.Bitmaps.{rowWords}
 use Rattle.rules.proofs.FrameLaws.{RowAt, FrameAt, pixel-fits, row-ext}
-use Rattle.rules.proofs.BoundLaws.{Near, near-add, near-more, near-pair, near-ward}
+use Rattle.rules.proofs.OffsetLaws.{Near, near-add, near-more, near-pair, near-ward}
 use Rattle.rules.proofs.PairLaws.{SameFrame, halved-ext, count-ext, pair-ext}
 use Rattle.rules.proofs.AlignmentLaws.{level-pixels-step, level-pixels-at}
 use Rattle.frame.proofs.PlaceLaws.{row-join}

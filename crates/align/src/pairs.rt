@@ -8,7 +8,7 @@ ghost use Prim.Native.Nat.{ℕ, _+_, _*_, _<_, _≤_, _^_};
 ghost use lib.ListN.{length, getD, drop};
 ghost use Rattle.rules.specs.Bitmaps.{rowWords};
 ghost use Rattle.rules.specs.Refusals.{greyNeeded};
-ghost use Rattle.rules.proofs.BoundLaws.{Near};
+ghost use Rattle.rules.proofs.OffsetLaws.{Near};
 ghost use Rattle.rules.specs.Levels.{added};
 ghost use Rattle.count.specs.Ones.{CountsOnes};
 ghost use Rattle.align.specs.Aligns.{Frames, Aligns};
@@ -82,7 +82,7 @@ pub fn align_frames(
         ones,
     );
     let centre = doubled(coarse);
-    settle(
+    let settled = settle(
         grey,
         first,
         second,
@@ -95,5 +95,6 @@ pub fn align_frames(
         counts,
         at + 9 * (s as usize),
         ones,
-    )
+    );
+    settled
 }

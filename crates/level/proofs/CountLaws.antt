@@ -13,7 +13,7 @@ use Rattle.rules.specs.Bitmaps.{rowWords}
 use Rattle.rules.specs.Differences.{difference}
 use Rattle.rules.specs.Calls.{planesOf}
 use Rattle.rules.specs.declared.Offset.{Offset}
-use Rattle.rules.proofs.BoundLaws.{Near, near-add}
+use Rattle.rules.proofs.OffsetLaws.{Near, near-add}
 use Rattle.rules.proofs.LevelLaws.{candidateAt, stepOf, candidate-is}
 use Rattle.rules.proofs.SignedLaws.{bits-are}
 use Rattle.candidates.proofs.LeadingLaws.{step-near}

@@ -10,7 +10,7 @@ ghost use lib.ListN.{length, drop};
 ghost use Rattle.rules.specs.Bitmaps.{rowWords};
 ghost use Rattle.rules.specs.Differences.{difference};
 ghost use Rattle.rules.specs.Calls.{planesOf};
-ghost use Rattle.rules.proofs.BoundLaws.{Near};
+ghost use Rattle.rules.proofs.OffsetLaws.{Near};
 ghost use Rattle.rules.proofs.FrameLaws.{RowAt};
 ghost use Rattle.count.specs.Ones.{CountsOnes};
 ghost use Rattle.level.specs.Sides.{Sides};

@@ -14,7 +14,7 @@ ghost use lib.ListN.{length, drop};
 ghost use Rattle.rules.specs.Frames.{frameOf};
 ghost use Rattle.rules.specs.Bitmaps.{rowWords};
 ghost use Rattle.rules.specs.Levels.{byTolerance, countAt};
-ghost use Rattle.rules.proofs.BoundLaws.{Near};
+ghost use Rattle.rules.proofs.OffsetLaws.{Near};
 ghost use Rattle.count.specs.Ones.{CountsOnes};
 ghost use Rattle.level.specs.Sides.{Sides};
 ghost use Rattle.level.specs.Choices.{Settled};

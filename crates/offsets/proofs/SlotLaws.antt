@@ -16,7 +16,7 @@ use Rattle.rules.specs.Planes.{distance}
 use Rattle.rules.specs.Levels.{still, added}
 use Rattle.rules.specs.Series.{opposite, frameOffset, offsetList}
 use Rattle.rules.proofs.SumLaws.{order}
-use Rattle.rules.proofs.BoundLaws.{Near, near-frame, near-more}
+use Rattle.rules.proofs.OffsetLaws.{Near, near-frame, near-more}
 use Rattle.rules.proofs.SignedLaws.{sum-is, sum-bits-fit, difference-is, difference-bits-fit}
 use Rattle.rules.proofs.SeriesLaws.{frame-at, frame-up, frame-down, frame-ext, offset-list}
 use Rattle.offsets.specs.Held.{offsetAt, slotOf, heldAt, Summed, Cleared, SummedFrom}

@@ -14,7 +14,7 @@ use Rattle.reexposure.specs.Reexposure.{Reexposed, Bytes, Sound, Bounded
 use Rattle.reexposure.proofs.Links.{Link, Linked, Fair, fair-zero}
 use Rattle.reexposure.proofs.Pairs.{linked-kept, answer-ext}
 use Rattle.rules.proofs.PairLaws.{pair-by}
-use Rattle.rules.proofs.BoundLaws.{Near, Every, near-pair, near-ward, near-frame, offset-at}
+use Rattle.rules.proofs.OffsetLaws.{Near, Every, near-pair, near-ward, near-frame, offset-at}
 
 -- grey values that some pixel of frame k has in F and in F′
 record Seen (S : Settings) (F F′ : List ℕ) (k : ℕ) (v v′ : ℕ) : Type 0 where

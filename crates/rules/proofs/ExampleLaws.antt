@@ -5,12 +5,13 @@ use Prim.Native.Nat.{ℕ}
 use lib.IntN.{ℤ}
 use Rattle.rules.specs.Sums.{sum, sumPixels}
 use Rattle.rules.specs.Frames.{Frame, frameOf}
-use Rattle.rules.specs.Greys.{grey, insert, sorted, secondSmallest}
+use Rattle.rules.specs.Greys.{grey, insert, sorted, secondSmallest, halved}
 use Rattle.rules.specs.Thresholds.{atMost, reaches, least, threshold}
 use Rattle.rules.specs.Planes.{thresholdBit, distance, exclusionBit, bitsBy, within}
 use Rattle.rules.specs.Differences.{Planes, differ, differAt, difference}
 use Rattle.rules.specs.Levels.{still, wardOrder, byTolerance, planesBy, firstLeast, chosen, level, countAt, pair}
 use Rattle.rules.specs.Examples.{ExamplesHold, one, oneToFour, firstFrame, secondFrame, numbers, printedCase, aligned, asPrinted}
+use Rattle.rules.specs.TwoLevels.{TwoLevels}
 
 -- the two planes once the threshold is known, so that it is worked out once and not for each pixel
 abbrev planesAt : ℕ → Frame → Planes
@@ -43,3 +44,7 @@ examples-hold =
     (λ (p r : List ℤ). one (grey 255 255 255) ∷ one (grey 255 0 0) ∷ one (grey 0 255 0) ∷ one (grey 0 0 255) ∷ one (secondSmallest 7 3 9 3) ∷ one (threshold 4 1 50 oneToFour) ∷ one (threshold 4 1 17 oneToFour) ∷ one (threshold 4 1 83 oneToFour) ∷ p ∷ r ∷ [])
     printed
     reexposed
+
+pub two-levels : TwoLevels
+unfolding sum sumPixels frameOf insert sorted secondSmallest halved atMost reaches least threshold thresholdBit distance exclusionBit within differ differAt difference planesBy firstLeast chosen level countAt pair
+two-levels = refl

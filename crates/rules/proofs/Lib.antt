@@ -1,4 +1,5 @@
 -- Laws of the definitions in specs/, for the proofs of the crates above.
+pub mod ExampleLaws
 pub mod SumLaws
 pub mod FrameLaws
 pub mod RefusalLaws
@@ -6,9 +7,8 @@ pub mod GreyLaws
 pub mod ThresholdLaws
 pub mod DifferenceLaws
 pub mod AlignmentLaws
-pub mod BoundLaws
+pub mod OffsetLaws
 pub mod LevelLaws
 pub mod SignedLaws
 pub mod PairLaws
 pub mod SeriesLaws
-pub mod ExampleLaws

@@ -14,7 +14,7 @@ use Rattle.rules.specs.declared.Offset.{Offset}
 use Rattle.rules.specs.Levels.{still, added}
 use Rattle.rules.specs.Series.{sumFrom, opposite, frameOffset, offsetList}
 use Rattle.rules.proofs.SumLaws.{order}
-use Rattle.rules.proofs.BoundLaws.{length-offsets, offset-at}
+use Rattle.rules.proofs.OffsetLaws.{length-offsets, offset-at}
 
 -- a sum of offsets begun at its front
 pub sum-from-front : (d : ℕ → Offset) (a n : ℕ) → sumFrom d a (suc n) ≡ added (d a) (sumFrom d (a + 1) n)

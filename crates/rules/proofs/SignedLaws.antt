@@ -8,7 +8,7 @@ use lib.Signed.{mag}
 use mir.Syntax.{w32}
 use mir.Val.{SFits, toZ, ofZ}
 use mir.Facts.{toZ-ofZ}
-use Rattle.rules.proofs.BoundLaws.{abs-add, abs-neg}
+use Rattle.rules.proofs.OffsetLaws.{abs-add, abs-neg}
 
 mag-le : (z : ℤ) → mag z ≤ natAbs z
 mag-le (pos n) = le-refl n

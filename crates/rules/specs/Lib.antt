@@ -13,3 +13,4 @@ pub mod Levels
 pub mod Series
 pub mod Calls
 pub mod Examples
+pub mod TwoLevels

@@ -13,7 +13,7 @@ use Rattle.rules.specs.Levels.{wardOrder, byTolerance, Aligned, pair}
 use Rattle.rules.specs.Refusals.{seriesRefusal}
 use Rattle.rules.specs.Series.{Settings, greyOf, pairOf, frameOffset, answerOf, answerBy, seriesAnswer}
 use Rattle.rules.specs.Calls.{settings}
-use Rattle.rules.proofs.BoundLaws.{length-offsets}
+use Rattle.rules.proofs.OffsetLaws.{length-offsets}
 use Rattle.rules.proofs.AlignmentLaws.{SeriesOk, series-ok}
 use Rattle.reexposure.specs.Reexposure.{Bytes, Sound, Bounded, Alike}
 use Rattle.reexposure.proofs.Theorem.{demand3}

@@ -24,7 +24,7 @@ use Rattle.rules.specs.Calls.{settings}
 use Rattle.rules.proofs.SumLaws.{order}
 use Rattle.rules.proofs.FrameLaws.{RowAt, row-none, pixel-fits}
 use Rattle.rules.proofs.PairLaws.{SameFrame, pair-ext}
-use Rattle.rules.proofs.BoundLaws.{Near, near-pair, near-ward, near-more}
+use Rattle.rules.proofs.OffsetLaws.{Near, near-pair, near-ward, near-more}
 use Rattle.rules.proofs.SignedLaws.{bits-are}
 use Rattle.rules.proofs.AlignmentLaws.{SeriesOk, level-pixels-at}
 use Rattle.frame.specs.Places.{greyAt}

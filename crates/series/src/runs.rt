@@ -5,7 +5,7 @@ use count::ones::ONES;
 use frame::conversion::convert;
 ghost use mathlib.Core.Path.{_≡_};
 ghost use Prim.Native.Nat.{_<_, _≤_};
-ghost use lib.ListN.{length};
+ghost use lib.ListN.{length, set};
 ghost use Rattle.rules.proofs.AlignmentLaws.{SeriesOk};
 ghost use Rattle.count.specs.Ones.{CountsOnes};
 ghost use Rattle.offsets.specs.Held.{slotOf};
@@ -25,6 +25,14 @@ fn slot(r: usize, k: usize) -> usize
     ensures { λ p. ⌜ p ≡ slotOf r k ⌝ }
 {
     if k < r { k } else { k + 1 }
+}
+
+// Writes one number of an offset. (The language stores no field directly, only a whole value.)
+fn store(offsets: &mut [i32], to: usize, value: i32)
+    requires { ⌜ to < length (now offsets) ⌝ }
+    ensures { λ _. ⌜ now (offsets .exit) ≡ set (now (offsets .entry)) to value ⌝ }
+{
+    offsets[to] = value;
 }
 
 // Aligns frames k and k + 1, of which frame k's grey stands in its place already.
@@ -70,10 +78,8 @@ fn align_next(
         ones,
     );
     let to = 2 * slot(r, k);
-    let dx = m.dx;
-    let dy = m.dy;
-    offsets[to] = dx;
-    offsets[to + 1] = dy;
+    store(offsets, to, m.dx);
+    store(offsets, to + 1, m.dy);
 }
 
 // Aligns each frame with the next one.

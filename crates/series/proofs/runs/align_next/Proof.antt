@@ -82,20 +82,17 @@ in-slots c =
 mul-to : tie.Need-mul-to
 mul-to c = let l = in-slots c in omega arith
 
-mul-dx : tie.Need-mul-dx
-mul-dx c = let l = in-slots (c .before .before) in omega arith
+store-requires : tie.Need-store-requires
+store-requires c κs = let l = in-slots (c .before .before) in omega arith
 
-slice-set-from-dx : tie.Need-slice-set-from-dx
-slice-set-from-dx c = let l = in-slots (c .before .before) in omega arith
+add-store : tie.Need-add-store
+add-store c = let l = in-slots (c .before .before .before .before .before) in omega arith
 
-add-dy : tie.Need-add-dy
-add-dy c = let l = in-slots (c .before .before) in omega arith
-
-mul-dy : tie.Need-mul-dy
-mul-dy c = let l = in-slots (c .before .before) in omega arith
-
-slice-set-from-dy : tie.Need-slice-set-from-dy
-slice-set-from-dy c = let l = in-slots (c .before .before) in simp length-set (omega arith)
+store-requires-2 : tie.Need-store-requires-2
+store-requires-2 c κs =
+    let l = in-slots (c .before .before .before .before .before .before) in
+    let e = c .before .before .before .store .ensures in
+    rw e (simp length-set (omega arith))
 
 same-length : tie.Need-same-length
 same-length c = search needs
@@ -111,18 +108,19 @@ same-length-4 c = search needs
 
 returns : tie.Need-returns
 returns c =
-    let b = c .before .before .before .before .before .before .before .before .before .before .before .before .before .before .before .before .before .before .before .before .before .before .before .before in
+    let b = c .before .before .before .before .before .before .before .before .before .before .before .before .before .before .before .before .before .before .before .before .before .before .before .before .before .before .before .before .before .before in
     let a = b .args in
-    let new = c .before .before .before .before .before .before .before .before .before .before .before .before .before .before .before .convert in
-    let aligns = c .before .before .before .before .before .before .before .before .before .align-frames in
-    let slot = c .before .before .slot in
+    let new = c .before .before .before .before .before .before .before .before .before .before .before .before .before .before .before .before .before .before .before .before .before .convert in
+    let aligns = c .before .before .before .before .before .before .before .before .before .before .before .before .before .before .before .align-frames in
+    let slot = c .before .before .before .before .before .before .before .before .slot in
     let from = (a .k + 1) * (3 * (a .w * a .h)) in
-    ran (a .w) (a .h) (a .s) (a .r) (a .k) (a .percentile) (a .tolerance) (c .before .before .before .before .before .before .before .before .before .before .before .before .before .before .before .before .before .before .before .place .result) (c .before .before .before .before .before .before .before .before .before .before .before .before .before .before .before .before .before .before .place2 .result)
+    rw (c .before .store2 .ensures, c .before .before .before .before .before .store .ensures)
+    (ran (a .w) (a .h) (a .s) (a .r) (a .k) (a .percentile) (a .tolerance) (c .before .before .before .before .before .before .before .before .before .before .before .before .before .before .before .before .before .before .before .before .before .before .before .before .before .place .result) (c .before .before .before .before .before .before .before .before .before .before .before .before .before .before .before .before .before .before .before .before .before .before .before .before .place2 .result)
     (a .k * (9 * (a .s + 1))) (slot .result) (a .rasters .now) (take (length (a .rasters .now) - from) (drop from (a .rasters .now)))
     (a .grey .now) (new .last .1 .1 .0) (aligns .last .0) (a .counts .now) (aligns .last .1 .1 .1 .1 .1 .1 .1 .1 .1 .0) (a .offsets .now) (aligns .result)
-    (c .before .before .before .before .before .before .before .before .before .before .before .before .before .before .before .before .before .before .before .place .ensures) (c .before .before .before .before .before .before .before .before .before .before .before .before .before .before .before .before .before .before .place2 .ensures) refl (slot .ensures) (part-to-end (a .rasters .now) from)
+    (c .before .before .before .before .before .before .before .before .before .before .before .before .before .before .before .before .before .before .before .before .before .before .before .before .before .place .ensures) (c .before .before .before .before .before .before .before .before .before .before .before .before .before .before .before .before .before .before .before .before .before .before .before .before .place2 .ensures) refl (slot .ensures) (part-to-end (a .rasters .now) from)
     (b .pre .1 .1 .0) (new .ensures) (aligns .ensures)
-    (b .pre .0 .shape .halvings) (in-slots (c .before .before) .1)
+    (b .pre .0 .shape .halvings) (in-slots (c .before .before .before .before .before .before .before .before) .1))
 
 pub align-next-spec : {M : Type 1} → statement M
 align-next-spec =
@@ -145,11 +143,9 @@ align-next-spec =
     align-frames-requires
     slot-requires
     mul-to
-    mul-dx
-    slice-set-from-dx
-    add-dy
-    mul-dy
-    slice-set-from-dy
+    store-requires
+    add-store
+    store-requires-2
     same-length
     same-length-2
     same-length-3
