@@ -1,0 +1,2 @@
+-- The common area.
+pub mod Common

@@ -1,0 +1,2 @@
+-- The moved frame.
+pub mod Moved

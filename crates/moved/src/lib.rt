@@ -1,0 +1,1 @@
+// The moved frame: the offered call.
