@@ -1,0 +1,2 @@
+-- The blink row.
+pub mod Blink

@@ -1,0 +1,3 @@
+-- P6 files: how they are read and written.
+pub mod P6
+pub mod RoundTrip

@@ -1,0 +1,3 @@
+-- The program `bracket`: its settings line and its output.
+pub mod SettingsLine
+pub mod Output

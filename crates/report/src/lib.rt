@@ -1,0 +1,11 @@
+// What the program `bracket` prints, from what it has read.
+
+// What a settings line says.
+pub enum Settings {
+    Given {
+        s: u32,
+        tolerance: u32,
+        percentile: u32,
+    },
+    Bad,
+}

@@ -1,0 +1,3 @@
+-- Numbers and text as bytes.
+pub mod Digits
+pub mod Puts
