@@ -1,0 +1,2 @@
+-- Laws of headers.
+use mathlib.Core.Path.{_≡_, refl, sym, ap, _∙_}
