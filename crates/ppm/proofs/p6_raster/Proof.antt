@@ -1,43 +1,38 @@
+-- A refused file has an empty part; the raster of any other one begins in the file or at its end, and is all the rest.
+use mathlib.Core.Path.{sym, _∙_}
+use Rattle.ppm.proofs.FieldLaws.{rest-whole}
+use Rattle.ppm.proofs.HeaderLaws.{start-within, part-refused}
 use native.Mathlib.Omega.{arith}
 use borrow.Author.Needs.{needs}
 use Rattle.ppm.proofs.p6_raster.Statement.{statement}
 use Rattle.ppm.proofs.p6_raster.Tie as tie
-use Rattle.ppm.proofs.p6_raster.Reads as reads
-use Rattle.ppm.proofs.p6_raster.Lts as lts
-use Rattle.ppm.proofs.reading.file_refusal.Reads as file-refusal-reads
-use Rattle.ppm.proofs.reading.raster_start.Reads as raster-start-reads
 
--- src/lib.rt:43:8
 file-refusal-requires : tie.Need-file-refusal-requires
 file-refusal-requires c κs = search needs
 
--- src/lib.rt:44:9
 slice-aggregate-result : tie.Need-slice-aggregate-result
 slice-aggregate-result c = search needs
 
--- src/lib.rt:44:9
 returns : tie.Need-returns
-returns c = ?
+returns c = rw (← c .before .before .file-refusal .ensures) (part-refused _ _ (c .before .if1 .taken))
 
--- src/lib.rt:46:9
 raster-start-requires : tie.Need-raster-start-requires
 raster-start-requires c κs = search needs
 
--- src/lib.rt:47:5
 sub-result : tie.Need-sub-result
-sub-result c = ?
+sub-result c = omega (arith, start-within (c .before .before .before .before .args .file .now))
 
--- src/lib.rt:47:5
 part-result-start : tie.Need-part-result-start
-part-result-start c = ?
+part-result-start c = omega (arith, start-within (c .before .before .before .before .args .file .now))
 
--- src/lib.rt:47:5
 part-result-end : tie.Need-part-result-end
-part-result-end c = ?
+part-result-end c = search needs
 
--- src/lib.rt:40:1
 returns-2 : tie.Need-returns-2
-returns-2 c = ?
+returns-2 c =
+    let e = c .before .before in
+    let file = e .before .before .before .args .file .now in
+    rw (sym (e .before .file-refusal .ensures) ∙ e .if1 .left, rest-whole file (c .before .raster-start .result), c .before .raster-start .ensures)
 
 pub p6-raster-spec : {M : Type 1} → statement M
 p6-raster-spec =
