@@ -1,16 +1,16 @@
 -- Laws of a header's fields: whitespace, then a number.
 use mathlib.Core.Path.{_≡_, refl, sym, ap, _∙_}
-use mathlib.Core.Bool.{Bool, true, false, _||_, cond}
+use mathlib.Core.Bool.{Bool, true, false, cond}
 use mathlib.Core.List.{List, [], _∷_, _++_}
-use Prim.Native.Nat.{ℕ, zero, suc, _+_, _-_, _≤_, _<_}
+use Prim.Native.Nat.{ℕ, _+_, _-_, _≤_, _<_}
 use native.Mathlib.Omega.{arith}
-use lib.Dec.{eqb, leb}
-use lib.ListN.{length, getD, take, drop, length-drop, length-append, List·getD-append}
+use lib.Dec.{leb}
+use lib.ListN.{length, take, drop, length-drop}
 use lib.Seq.{take-all}
-use borrow.Author.Tests.{le-leb, leb-true, ne-eqb}
+use borrow.Author.Tests.{le-leb, ne-eqb}
 use Rattle.text.specs.declared.Number.{Number}
 use Rattle.text.specs.Digits.{isDigit, leading, numberOf, digits}
-use Rattle.text.proofs.ReadLaws.{leading-on, leading-in, leading-none, leading-pass, digit-range, read-ok}
+use Rattle.text.proofs.ReadLaws.{leading-all, leading-in, leading-none, leading-pass, digit-range, read-ok}
 use Rattle.text.proofs.DigitLaws.{digits-none-empty, digits-pass, read-digits}
 use Rattle.ppm.specs.P6.{isWhite, placed, fieldOf}
 
@@ -81,4 +81,11 @@ ink-leads (b ∷ l) k = leading-none isWhite b l (digit-ink b (leading-pass isDi
 -- A field as the writer puts it: a byte of whitespace, and digits up to a byte that is none.
 pub field-written : (b n : ℕ) (l : List ℕ) → isWhite b ≡ true → n < 1000000000 → leading isDigit l ≡ 0
     → fieldOf (b ∷ (digits n ++ l)) ≡ Number.Read n (1 + length (digits n))
-field-written b n l e k m = ?
+unfolding leading
+field-written b n l e k m = sym (field-read (b ∷ (digits n ++ l)) 1 n (length (digits n)) (sym blank) (omega arith) (read-digits n l k m))
+  where
+    ink : 1 ≤ leading isDigit (digits n ++ l)
+    ink = let a = leading-all isDigit (digits n) l (digits-pass n) in let c = digits-none-empty n in omega arith
+
+    blank : leading isWhite (b ∷ (digits n ++ l)) ≡ 1
+    blank = rw (e, ink-leads (digits n ++ l) ink)

@@ -1,7 +1,8 @@
 -- Laws of the writer: the header's length, and what an accepted call knows.
 use mathlib.Core.Path.{_≡_, refl, sym, ap, _∙_}
+use mathlib.Core.Bool.{false}
 use mathlib.Core.List.{List, [], _∷_, _++_, append-assoc}
-use Prim.Native.Nat.{ℕ, zero, suc, _+_, _*_, _≤_, _<_}
+use Prim.Native.Nat.{ℕ, zero, suc, _+_, _*_, _≤_}
 use native.Mathlib.Nat.{zero-add}
 use native.Mathlib.Omega.{arith}
 use lib.ListN.{length, length-append}
@@ -68,6 +69,7 @@ begun-room t u b m at s l =
     omega (arith, length-append t u)
 
 pub record WriteOk (w h raster out : ℕ) : Type 0 where
+  pub good : badSize w h ≡ false
   pub size : SizeOk w h
   pub exact : raster ≡ 3 * (w * h)
   pub room : length (header w h) + raster ≤ out
@@ -82,6 +84,7 @@ write-ok w h raster out e =
     let q = orElse-no n9 n10 (p .1) in
     let exact = length-is (rasterLength w h) raster (when-no 9 (wrongLength (rasterLength w h) raster) (omega arith) (q .0)) in
     record {
+      good = when-no 2 (badSize w h) (omega arith) (p .0);
       size = size-ok w h (p .0);
       exact = exact;
       room = rw exact (ltb-false out needed (when-no 10 (short needed out) (omega arith) (q .1)));

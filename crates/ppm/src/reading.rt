@@ -1,9 +1,11 @@
 // P6 headers read: the first bytes of a file, field by field.
 
-use super::{Header, LARGEST, MAGIC, Size};
+use super::Header;
+use super::LARGEST;
+use super::MAGIC;
+use super::Size;
 use text::Number;
 ghost use mathlib.Core.Path.{_≡_};
-ghost use lib.ListN.{length};
 ghost use Rattle.text.specs.Digits.{leading};
 ghost use Rattle.ppm.specs.P6.{isMagic, isWhite, fieldOf, ending, headerOf, p6Refusal, startIn, sizeIn};
 
@@ -89,7 +91,11 @@ pub fn parse(file: &[u8]) -> Header
         return Header::Bad;
     };
     let at2 = at1 + count;
-    let Number::Read { value: largest, count } = read_field(&file[at2..]) else {
+    let Number::Read {
+        value: largest,
+        count,
+    } = read_field(&file[at2..])
+    else {
         return Header::Bad;
     };
     finish(file, w, h, largest, at2 + count)

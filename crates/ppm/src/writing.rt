@@ -1,7 +1,10 @@
 // P6 headers written: their length, and their bytes put into a lent buffer.
 
-use super::{LARGEST, MAGIC};
-use text::{digit_count, put, put_number};
+use super::LARGEST;
+use super::MAGIC;
+use text::digit_count;
+use text::put;
+use text::put_number;
 ghost use mathlib.Core.Path.{_≡_};
 ghost use mathlib.Core.List.{_++_};
 ghost use Prim.Native.Nat.{_+_, _≤_};

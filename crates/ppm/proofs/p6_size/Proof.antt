@@ -1,7 +1,6 @@
 -- A refused file answers its number, any other one its size.
 use mathlib.Core.Path.{sym, _∙_}
 use Rattle.ppm.proofs.HeaderLaws.{held-refused}
-use native.Mathlib.Omega.{arith}
 use borrow.Author.Needs.{needs}
 use Rattle.ppm.proofs.p6_size.Statement.{statement}
 use Rattle.ppm.proofs.p6_size.Tie as tie

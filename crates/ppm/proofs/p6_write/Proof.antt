@@ -1,6 +1,6 @@
 -- A refused call answers its number and touches nothing; an accepted one puts the header, and the raster after it.
 use mathlib.Core.Path.{sym, ap, _∙_}
-use lib.ListN.{length, length-append}
+use lib.ListN.{length}
 use Rattle.rules.proofs.RefusalLaws.{lent-refused}
 use Rattle.text.proofs.PutLaws.{put-length, put-written}
 use Rattle.ppm.specs.declared.Stored.{Stored}

@@ -3,7 +3,6 @@ use mathlib.Core.Path.{sym, _∙_}
 use borrow.Author.Tests.{eq-eqb, ne-eqb, not-true, not-false}
 use Rattle.ppm.specs.P6.{ending}
 use Rattle.ppm.proofs.HeaderLaws.{white-past}
-use native.Mathlib.Omega.{arith}
 use borrow.Author.Needs.{needs}
 use Rattle.ppm.proofs.reading.finish.Statement.{statement}
 use Rattle.ppm.proofs.reading.finish.Tie as tie

@@ -1,7 +1,6 @@
 -- The header that was parsed decides.
 use mathlib.Core.Path.{sym, _∙_}
 use Rattle.ppm.specs.P6.{sizeIn}
-use native.Mathlib.Omega.{arith}
 use borrow.Author.Needs.{needs}
 use Rattle.ppm.proofs.reading.frame_size.Statement.{statement}
 use Rattle.ppm.proofs.reading.frame_size.Tie as tie

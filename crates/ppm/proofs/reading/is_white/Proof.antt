@@ -1,8 +1,6 @@
 -- Each test decides once those before it have failed.
 use borrow.Author.Tests.{eq-eqb, ne-eqb}
 use Rattle.ppm.specs.P6.{isWhite}
-use native.Mathlib.Omega.{arith}
-use borrow.Author.Needs.{needs}
 use Rattle.ppm.proofs.reading.is_white.Statement.{statement}
 use Rattle.ppm.proofs.reading.is_white.Tie as tie
 

@@ -1,7 +1,6 @@
 -- The header that was parsed decides.
 use mathlib.Core.Path.{sym, _∙_}
 use Rattle.ppm.specs.P6.{startIn}
-use native.Mathlib.Omega.{arith}
 use borrow.Author.Needs.{needs}
 use Rattle.ppm.proofs.reading.raster_start.Statement.{statement}
 use Rattle.ppm.proofs.reading.raster_start.Tie as tie

@@ -1,6 +1,6 @@
 -- Whitespace leads, and a number follows: the slice that is lent to its reader is the rest of the bytes.
 use mathlib.Core.Path.{_≡_, sym, ap, _∙_}
-use lib.ListN.{length, drop}
+use lib.ListN.{drop}
 use Rattle.text.specs.declared.Number.{Number}
 use Rattle.text.specs.Digits.{numberOf}
 use Rattle.text.proofs.ReadLaws.{leading-in, read-ok}
@@ -56,7 +56,7 @@ found c =
     ∙ c .before .value .given .1
 
 add-t8 : tie.Need-add-t8
-add-t8 c = 
+add-t8 c =
     let e = c .before .before .before .before .before in
     let bytes = e .before .before .before .args .bytes .now in
     let s = read-ok (drop (e .before .leading-white .result) bytes) _ _ (found c) in

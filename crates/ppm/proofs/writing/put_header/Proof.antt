@@ -1,11 +1,8 @@
 -- Each piece follows what stands at the beginning, and the whole is as long as the pieces together.
-use mathlib.Core.Path.{_≡_, refl, sym, ap, _∙_}
-use mathlib.Core.List.{List, [], _∷_, _++_, append-assoc}
-use lib.ListN.{length, length-append}
+use mathlib.Core.List.{[], _∷_, _++_}
+use lib.ListN.{length}
 use Rattle.text.specs.Digits.{digits}
-use Rattle.text.specs.Puts.{Put}
-use Rattle.text.proofs.PutLaws.{put-length}
-use Rattle.ppm.specs.P6.{magic, header}
+use Rattle.ppm.specs.P6.{magic}
 use Rattle.ppm.proofs.WriteLaws.{upTo2, upTo3, upTo4, upTo5, header-pieces, Begun, begun-more, begun-room, PiecesFit, pieces-fit}
 use native.Mathlib.Omega.{arith}
 use borrow.Author.Needs.{needs}
