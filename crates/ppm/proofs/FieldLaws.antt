@@ -36,35 +36,38 @@ pub field-read : (l : List ℕ) (blanks value count : ℕ) → blanks ≡ leadin
 unfolding fieldOf placed
 field-read l blanks value count e k b = rw (← e, b, le-leb 1 blanks k)
 
--- What is known of a field that was read.
-pub field-ok : (l : List ℕ) (value count : ℕ) → fieldOf l ≡ Number.Read value count → (value < 1000000000) × (count ≤ length l)
+-- A field that was read lies in the bytes.
+field-in : (l : List ℕ) (value count : ℕ) → fieldOf l ≡ Number.Read value count → count ≤ length l
 unfolding fieldOf placed
-field-ok l value count e = split (numberOf (drop n l)) refl e
+field-in l value count e = split (numberOf (drop n l)) refl e
   where
     n : ℕ
     n = leading isWhite l
 
-    read : (t : Bool) (v k : ℕ) → numberOf (drop n l) ≡ Number.Read v k → cond t (Number.Read v (n + k)) Number.Bad ≡ Number.Read value count
-        → (value < 1000000000) × (count ≤ length l)
+    read : (t : Bool) (v k : ℕ) → numberOf (drop n l) ≡ Number.Read v k → cond t (Number.Read v (n + k)) Number.Bad ≡ Number.Read value count → count ≤ length l
     read true v k a e =
         let s = read-ok (drop n l) v k a in
-        let x : v ≡ value = cc in
         let y : n + k ≡ count = cc in
-        let d = length-drop n l in
-        let i = leading-in isWhite l in
-        omega arith
+        omega (arith, length-drop n l, leading-in isWhite l)
     read false v k a e = absurd (let z : _≡_ {A = ℕ} 0 1 = cc in omega arith)
 
-    split : (m : Number) → numberOf (drop n l) ≡ m → placed n m ≡ Number.Read value count → (value < 1000000000) × (count ≤ length l)
+    split : (m : Number) → numberOf (drop n l) ≡ m → placed n m ≡ Number.Read value count → count ≤ length l
     split Number.Bad a e = absurd (let z : _≡_ {A = ℕ} 0 1 = cc in omega arith)
     split (Number.Read v k) a e = read (leb 1 n) v k a e
 
--- The same at place `at` of a file, where the slice lent to the field's reader is the rest of the file.
+-- A field at place `at` of a file, where the slice lent to the field's reader is the rest of the file.
 pub field-told : (file : List ℕ) (at : ℕ) (n r : Number) → r ≡ fieldOf (take (length file - at) (drop at file)) → r ≡ n → fieldOf (drop at file) ≡ n
 field-told file at n r e g = ap fieldOf (sym (rest-whole file at)) ∙ sym e ∙ g
 
-pub field-within : (file : List ℕ) (at value count : ℕ) → at ≤ length file → fieldOf (drop at file) ≡ Number.Read value count → at + count ≤ length file
-field-within file at value count l e = let a = field-ok (drop at file) value count e in let b = length-drop at file in omega arith
+pub record FieldAt (file : List ℕ) (at value count : ℕ) : Type 0 where
+  pub is : fieldOf (drop at file) ≡ Number.Read value count
+  pub within : at + count ≤ length file
+
+pub field-at : (file : List ℕ) (at value count : ℕ) (r : Number) → at ≤ length file → r ≡ fieldOf (take (length file - at) (drop at file))
+    → r ≡ Number.Read value count → FieldAt file at value count
+field-at file at value count r l e g =
+    let is = field-told file at (Number.Read value count) r e g in
+    record { is = is; within = omega (arith, field-in (drop at file) value count is, length-drop at file) }
 
 -- A digit is no whitespace.
 digit-ink : (b : ℕ) → isDigit b ≡ true → isWhite b ≡ false
