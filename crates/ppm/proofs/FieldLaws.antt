@@ -6,7 +6,7 @@ use Prim.Native.Nat.{ℕ, _+_, _-_, _≤_, _<_}
 use native.Mathlib.Omega.{arith}
 use lib.Dec.{leb}
 use lib.ListN.{length, take, drop, length-drop}
-use lib.Seq.{take-all}
+use lib.Seq.{take-all, drop-at, drop-drop}
 use borrow.Author.Tests.{le-leb, ne-eqb}
 use Rattle.text.specs.declared.Number.{Number}
 use Rattle.text.specs.Digits.{isDigit, leading, numberOf, digits}
@@ -82,7 +82,7 @@ ink-leads [] k = absurd (omega arith)
 ink-leads (b ∷ l) k = leading-none isWhite b l (digit-ink b (leading-pass isDigit (b ∷ l) 0 k))
 
 -- A field as the writer puts it: a byte of whitespace, and digits up to a byte that is none.
-pub field-written : (b n : ℕ) (l : List ℕ) → isWhite b ≡ true → n < 1000000000 → leading isDigit l ≡ 0
+field-written : (b n : ℕ) (l : List ℕ) → isWhite b ≡ true → n < 1000000000 → leading isDigit l ≡ 0
     → fieldOf (b ∷ (digits n ++ l)) ≡ Number.Read n (1 + length (digits n))
 unfolding leading
 field-written b n l e k m = sym (field-read (b ∷ (digits n ++ l)) 1 n (length (digits n)) (sym blank) (omega arith) (read-digits n l k m))
@@ -92,3 +92,11 @@ field-written b n l e k m = sym (field-read (b ∷ (digits n ++ l)) 1 n (length 
 
     blank : leading isWhite (b ∷ (digits n ++ l)) ≡ 1
     blank = rw (e, ink-leads (digits n ++ l) ink)
+
+-- A field that was written at place `at`, and what follows it.
+pub field-next : (file : List ℕ) (at b n : ℕ) (l : List ℕ) → drop at file ≡ b ∷ (digits n ++ l) → isWhite b ≡ true → n < 1000000000 → leading isDigit l ≡ 0
+    → let count = 1 + length (digits n) in (fieldOf (drop at file) ≡ Number.Read n count) × (drop (at + count) file ≡ l)
+field-next file at b n l d e k m = (
+  ap fieldOf d ∙ field-written b n l e k m,
+  sym (drop-drop (1 + length (digits n)) at file) ∙ rw d (drop-at (b ∷ digits n) l (1 + length (digits n)) (omega arith)),
+)
