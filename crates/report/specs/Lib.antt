@@ -1,3 +1,4 @@
 -- The program `bracket`: its settings line and its output.
 pub mod SettingsLine
+pub mod SpacedNumbers
 pub mod Output

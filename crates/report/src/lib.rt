@@ -1,5 +1,8 @@
 // What the program `bracket` prints, from what it has read.
 
+pub mod parser;
+pub mod writer;
+
 // What a settings line says.
 pub enum Settings {
     Given {

@@ -1,0 +1,93 @@
+-- Laws of the settings line.
+use mathlib.Core.Path.{_≡_, refl, sym, ap, _∙_}
+use mathlib.Core.Logic.{⊎-elim}
+use mathlib.Core.Bool.{Bool, true, false, not, _&&_, cond}
+use mathlib.Core.List.{List, [], _∷_}
+use Prim.Native.Nat.{ℕ, zero, suc, _+_, _≤_, _<_, min}
+use native.Mathlib.Nat.{zero-add, add-assoc, zero-min, min-zero, suc-min-suc}
+use native.Mathlib.Omega.{arith}
+use lib.Dec.{eqb, leb}
+use lib.ListN.{length, getD, take, drop, length-take, List·getD-eq-default}
+use lib.Seq.{take-take}
+use borrow.Author.Tests.{eqb-true, leb-true}
+use Rattle.rules.proofs.SumLaws.{order}
+use Rattle.text.specs.declared.Number.{Number}
+use Rattle.text.specs.Digits.{isDigit, leading, decimal, numberOf}
+use Rattle.report.specs.declared.Settings.{Settings}
+use Rattle.report.specs.SettingsLine.{lineOf, spaced, last, numbersOf, settingsOf}
+use Rattle.report.specs.SpacedNumbers.{withSpace, spacedNumber}
+
+-- a number takes at most nine bytes
+pub number-short : (l : List ℕ) (value count : ℕ) → numberOf l ≡ Number.Read value count → count ≤ 9
+unfolding numberOf
+number-short l value count e = tested (leading isDigit l) (leb 1 (leading isDigit l)) (leb (leading isDigit l) 9) refl e
+  where
+    tested : (n : ℕ) (t u : Bool) → leb n 9 ≡ u → cond (t && u) (Number.Read (decimal 0 (take n l)) n) Number.Bad ≡ Number.Read value count → count ≤ 9
+    tested n true true a b = let c : n ≡ count = cc in let d = leb-true n 9 a in omega arith
+    tested n true false a b = let z : _≡_ {A = ℕ} 0 1 = cc in absurd (omega arith)
+    tested n false u a b = let z : _≡_ {A = ℕ} 0 1 = cc in absurd (omega arith)
+
+-- Reading a number together with its 32 is reading the number and looking at the next byte.
+pub spaced-none : (line : List ℕ) (at : ℕ) (next : ℕ → ℕ → Settings) → spacedNumber line at ≡ Number.Bad
+    → spaced line at (numberOf (drop at line)) next ≡ Settings.Bad
+unfolding spacedNumber withSpace spaced
+spaced-none line at next e = cases (numberOf (drop at line)) e
+  where
+    tested : (t : Bool) (v n : ℕ) → cond t (Number.Read v (n + 1)) Number.Bad ≡ Number.Bad → cond t (next v (at + n + 1)) Settings.Bad ≡ Settings.Bad
+    tested true v n e = let z : _≡_ {A = ℕ} 0 1 = cc in absurd (omega arith)
+    tested false v n e = refl
+
+    cases : (m : Number) → withSpace line at m ≡ Number.Bad → spaced line at m next ≡ Settings.Bad
+    cases Number.Bad e = refl
+    cases (Number.Read v n) e = tested (eqb (getD line (at + n) 0) 32) v n e
+
+pub spaced-some : (line : List ℕ) (at v n : ℕ) (next : ℕ → ℕ → Settings) → spacedNumber line at ≡ Number.Read v n
+    → spaced line at (numberOf (drop at line)) next ≡ next v (at + n)
+unfolding spacedNumber withSpace spaced
+spaced-some line at v n next e = cases (numberOf (drop at line)) e
+  where
+    tested : (t : Bool) (v′ n′ : ℕ) → cond t (Number.Read v′ (n′ + 1)) Number.Bad ≡ Number.Read v n → cond t (next v′ (at + n′ + 1)) Settings.Bad ≡ next v (at + n)
+    tested true v′ n′ e =
+        let a : v′ ≡ v = cc in
+        let b : n′ + 1 ≡ n = cc in
+        let d : at + n′ + 1 ≡ at + n = omega arith in
+        rw (a, d)
+    tested false v′ n′ e = let z : _≡_ {A = ℕ} 0 1 = cc in absurd (omega arith)
+
+    cases : (m : Number) → withSpace line at m ≡ Number.Read v n → spaced line at m next ≡ next v (at + n)
+    cases Number.Bad e = let z : _≡_ {A = ℕ} 0 1 = cc in absurd (omega arith)
+    cases (Number.Read v′ n′) e = tested (eqb (getD line (at + n′) 0) 32) v′ n′ e
+
+-- The 32 is a byte of the line.
+pub spaced-in : (line : List ℕ) (at v n : ℕ) → spacedNumber line at ≡ Number.Read v n → at + n ≤ length line
+unfolding spacedNumber withSpace
+spaced-in line at v n e = cases (numberOf (drop at line)) e
+  where
+    inside : (i : ℕ) → getD line i 0 ≡ 32 → i < length line
+    inside i e = ⊎-elim (λ (l : i < length line). l) (λ (l : length line ≤ i). absurd (let a = List·getD-eq-default line 0 l in omega arith)) (order i (length line))
+
+    tested : (t : Bool) (v′ n′ : ℕ) → eqb (getD line (at + n′) 0) 32 ≡ t → cond t (Number.Read v′ (n′ + 1)) Number.Bad ≡ Number.Read v n → at + n ≤ length line
+    tested true v′ n′ a e =
+        let b : n′ + 1 ≡ n = cc in
+        let d = inside (at + n′) (eqb-true (getD line (at + n′) 0) 32 a) in
+        omega arith
+    tested false v′ n′ a e = let z : _≡_ {A = ℕ} 0 1 = cc in absurd (omega arith)
+
+    cases : (m : Number) → withSpace line at m ≡ Number.Read v n → at + n ≤ length line
+    cases Number.Bad e = let z : _≡_ {A = ℕ} 0 1 = cc in absurd (omega arith)
+    cases (Number.Read v′ n′) e = tested (eqb (getD line (at + n′) 0) 32) v′ n′ refl e
+
+-- The three numbers, as far as they have been read.
+pub first-none : (line : List ℕ) → spacedNumber line 0 ≡ Number.Bad → numbersOf line ≡ Settings.Bad
+unfolding numbersOf
+first-none line e = spaced-none line 0 _ e
+
+pub second-none : (line : List ℕ) (s at : ℕ) → spacedNumber line 0 ≡ Number.Read s at → spacedNumber line at ≡ Number.Bad
+    → numbersOf line ≡ Settings.Bad
+unfolding numbersOf
+second-none line s at e f = spaced-some line 0 s at _ e ∙ rw zero-add (spaced-none line at _ f)
+
+pub third-left : (line : List ℕ) (s at tolerance n : ℕ) → spacedNumber line 0 ≡ Number.Read s at → spacedNumber line at ≡ Number.Read tolerance n
+    → numbersOf line ≡ last line (at + n) (numberOf (drop (at + n) line)) (λ percentile. Settings.Given s tolerance percentile)
+unfolding numbersOf
+third-left line s at tolerance n e f = spaced-some line 0 s at _ e ∙ rw zero-add (spaced-some line at tolerance n _ f)
