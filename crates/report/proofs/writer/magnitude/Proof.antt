@@ -1,33 +1,35 @@
-use native.Mathlib.Omega.{arith}
-use borrow.Author.Needs.{needs}
+-- Widened to 64 bits the opposite fits, so that the machine reads it back as it is.
+use mathlib.Core.Path.{sym, ap, subst}
+use lib.Dec.{T}
+use lib.IntN.{ℤ, natAbs}
+use lib.Signed.{nonNeg}
+use mir.Syntax.{w32}
+use mir.Val.{Fits}
+use mir.Facts.{fits-natAbs}
+use Rattle.report.proofs.MagnitudeLaws.{read32, wide-fits, above-size, opposite-fits, opposite-read}
 use Rattle.report.proofs.writer.magnitude.Statement.{statement}
 use Rattle.report.proofs.writer.magnitude.Tie as tie
-use Rattle.report.proofs.writer.magnitude.Reads as reads
-use Rattle.report.proofs.writer.magnitude.Lts as lts
 
--- src/writer.rt:10:19
 cast-result : tie.Need-cast-result
-cast-result c = let e : ⊥ = c .if1 .taken in ?
+cast-result c = wide-fits (c .before .args .n) (c .before .fits .n)
 
--- src/writer.rt:10:17
 sub-result : tie.Need-sub-result
-sub-result c = ?
+sub-result c = opposite-fits (c .before .args .n) (c .before .fits .n) (c .if1 .taken)
 
--- src/writer.rt:10:16
 cast-result-2 : tie.Need-cast-result-2
-cast-result-2 c = ?
+cast-result-2 c =
+    subst (λ (z : ℤ). T (nonNeg z) × Fits w32 (natAbs z))
+    (sym (opposite-read (c .before .args .n) (c .before .fits .n) (c .if1 .taken)))
+    (tt, fits-natAbs tt (c .before .fits .n))
 
--- src/writer.rt:10:9
 returns : tie.Need-returns
-returns c = ?
+returns c = ap natAbs (opposite-read (c .before .args .n) (c .before .fits .n) (c .if1 .taken))
 
--- src/writer.rt:12:5
 cast-result-3 : tie.Need-cast-result-3
-cast-result-3 c = let e : ⊥ = c .if1 .left in ?
+cast-result-3 c = above-size (c .before .args .n) (c .before .fits .n) (c .if1 .left)
 
--- src/writer.rt:6:1
 returns-2 : tie.Need-returns-2
-returns-2 c = ?
+returns-2 c = ap natAbs (read32 (c .before .args .n) (c .before .fits .n))
 
 pub magnitude-spec : {M : Type 1} → statement M
 magnitude-spec =
