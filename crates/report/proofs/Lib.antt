@@ -2,4 +2,5 @@
 pub mod LineLaws
 pub mod ReadLimits
 pub mod TextLaws
+pub mod WriteLaws
 pub mod MagnitudeLaws

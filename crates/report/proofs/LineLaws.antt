@@ -17,16 +17,6 @@ use Rattle.report.specs.declared.Settings.{Settings}
 use Rattle.report.specs.SettingsLine.{lineOf, spaced, last, numbersOf, settingsOf}
 use Rattle.report.specs.SpacedNumbers.{withSpace, spacedNumber}
 
--- a number takes at most nine bytes
-pub number-short : (l : List ℕ) (value count : ℕ) → numberOf l ≡ Number.Read value count → count ≤ 9
-unfolding numberOf
-number-short l value count e = tested (leading isDigit l) (leb 1 (leading isDigit l)) (leb (leading isDigit l) 9) refl e
-  where
-    tested : (n : ℕ) (t u : Bool) → leb n 9 ≡ u → cond (t && u) (Number.Read (decimal 0 (take n l)) n) Number.Bad ≡ Number.Read value count → count ≤ 9
-    tested n true true a b = let c : n ≡ count = cc in let d = leb-true n 9 a in omega arith
-    tested n true false a b = let z : _≡_ {A = ℕ} 0 1 = cc in absurd (omega arith)
-    tested n false u a b = let z : _≡_ {A = ℕ} 0 1 = cc in absurd (omega arith)
-
 -- Reading a number together with its 32 is reading the number and looking at the next byte.
 pub spaced-none : (line : List ℕ) (at : ℕ) (next : ℕ → ℕ → Settings) → spacedNumber line at ≡ Number.Bad
     → spaced line at (numberOf (drop at line)) next ≡ Settings.Bad

@@ -26,6 +26,16 @@ above : (z : ℤ) → ltZ z (pos 0) ≡ false → T (nonNeg z)
 above (pos n) t = tt
 above (negsuc n) t = absurd (true≢false t)
 
+signed-above : (z : ℤ) → ltZ z (pos 0) ≡ false → signed z ≡ digits (natAbs z)
+unfolding signed
+signed-above (pos n) t = refl
+signed-above (negsuc n) t = absurd (true≢false t)
+
+signed-below : (z : ℤ) → ltZ z (pos 0) ≡ true → signed z ≡ (45 ∷ []) ++ digits (natAbs z)
+unfolding signed
+signed-below (pos n) t = absurd (never-below n t)
+signed-below (negsuc n) t = refl
+
 module _ (z : ℤ) (fits : SFits w32 z) where
   -- as the machine reads it back
   pub read32 : toZ w32 (ofZ w32 z) ≡ z
@@ -41,6 +51,9 @@ module _ (z : ℤ) (fits : SFits w32 z) where
   pub above-size : ltZ (toZ w32 (ofZ w32 z)) (pos 0) ≡ false → T (nonNeg (toZ w32 (ofZ w32 z))) × Fits w32 (natAbs (toZ w32 (ofZ w32 z)))
   above-size t = (above (toZ w32 (ofZ w32 z)) t, rw read32 (fits-natAbs tt fits))
 
+  pub text-above : ltZ (toZ w32 (ofZ w32 z)) (pos 0) ≡ false → (m : ℕ) → m ≡ natAbs (toZ w32 (ofZ w32 z)) → signed z ≡ digits m
+  text-above t m e = ap signed (sym read32) ∙ signed-above (toZ w32 (ofZ w32 z)) t ∙ rw e
+
   -- a negative one
   module _ (below : ltZ (toZ w32 (ofZ w32 z)) (pos 0) ≡ true) where
     opposite-is : pos 0 -ℤ toZ w64 (ofZ w64 (toZ w32 (ofZ w32 z))) ≡ pos (natAbs z)
@@ -52,13 +65,6 @@ module _ (z : ℤ) (fits : SFits w32 z) where
     pub opposite-read : toZ w64 (ofZ w64 (pos 0 -ℤ toZ w64 (ofZ w64 (toZ w32 (ofZ w32 z))))) ≡ pos (natAbs z)
     opposite-read = toZ-ofZ opposite-fits ∙ opposite-is
 
--- the text of a number, with its size's digits
-pub signed-above : (z : ℤ) → ltZ z (pos 0) ≡ false → signed z ≡ digits (natAbs z)
-unfolding signed
-signed-above (pos n) t = refl
-signed-above (negsuc n) t = absurd (true≢false t)
-
-pub signed-below : (z : ℤ) → ltZ z (pos 0) ≡ true → signed z ≡ (45 ∷ []) ++ digits (natAbs z)
-unfolding signed
-signed-below (pos n) t = absurd (never-below n t)
-signed-below (negsuc n) t = refl
+    -- its text, from the size m that was worked out
+    pub text-below : (m : ℕ) → m ≡ natAbs (toZ w32 (ofZ w32 z)) → signed z ≡ (45 ∷ []) ++ digits m
+    text-below m e = ap signed (sym read32) ∙ signed-below (toZ w32 (ofZ w32 z)) below ∙ rw e

@@ -13,10 +13,10 @@ use borrow.Author.Tests.{eqb-true, lt-leb}
 use Rattle.rules.proofs.SumLaws.{order}
 use Rattle.text.specs.declared.Number.{Number}
 use Rattle.text.specs.Digits.{leading, numberOf}
+use Rattle.text.proofs.ReadLaws.{leading-in, read-ok}
 use Rattle.report.specs.declared.Settings.{Settings}
 use Rattle.report.specs.SettingsLine.{lineOf, spaced, last, numbersOf, settingsOf}
 use Rattle.report.specs.Output.{asRead, bracketOutput}
-use Rattle.report.proofs.LineLaws.{number-short}
 
 -- "The longest good line has 29 bytes, so a 30th is looked at."
 spaced-bad : (line : List ℕ) (at : ℕ) (m : Number) (next : ℕ → ℕ → Settings)
@@ -45,9 +45,9 @@ long-bad line long =
     spaced-bad line 0 (numberOf line) _ (λ s n1 e1.
     spaced-bad line (0 + n1 + 1) (numberOf (drop (0 + n1 + 1) line)) _ (λ tolerance n2 e2.
     last-bad line (0 + n1 + 1 + n2 + 1) (numberOf (drop (0 + n1 + 1 + n2 + 1) line)) _ (λ percentile n3 e3.
-    let a = number-short line s n1 e1 in
-    let b = number-short (drop (0 + n1 + 1) line) tolerance n2 e2 in
-    let c = number-short (drop (0 + n1 + 1 + n2 + 1) line) percentile n3 e3 in
+    let a = read-ok line s n1 e1 in
+    let b = read-ok (drop (0 + n1 + 1) line) tolerance n2 e2 in
+    let c = read-ok (drop (0 + n1 + 1 + n2 + 1) line) percentile n3 e3 in
     omega arith)))
 
 leading-take : (p : ℕ → Bool) (k : ℕ) (l : List ℕ) → leading p (take k l) ≡ min k (leading p l)
@@ -60,15 +60,6 @@ leading-take p (suc k) (b ∷ l) = tested (p b) (leading-take p k l)
         → cond t (suc (leading p (take k l))) 0 ≡ min (suc k) (cond t (suc (leading p l)) 0)
     tested true e = ap suc e ∙ sym (suc-min-suc k (leading p l))
     tested false e = sym (min-zero (suc k))
-
-leading-le : (p : ℕ → Bool) (l : List ℕ) → leading p l ≤ length l
-unfolding leading
-leading-le p [] = omega arith
-leading-le p (b ∷ l) = tested (p b) (leading-le p l)
-  where
-    tested : (t : Bool) → leading p l ≤ length l → cond t (suc (leading p l)) 0 ≤ suc (length l)
-    tested true e = omega arith
-    tested false e = omega arith
 
 pub settings-within : (input : List ℕ) → settingsOf (take 30 input) ≡ settingsOf input
 unfolding settingsOf lineOf
@@ -87,7 +78,7 @@ settings-within input = ⊎-elim near far (order n 30)
 
     far : 30 ≤ n → numbersOf (take (leading inLine (take 30 input)) (take 30 input)) ≡ numbersOf (take n input)
     far l =
-        let a = leading-le inLine input in
+        let a = leading-in inLine input in
         let b = leading-take inLine 30 input in
         let c = length-take 30 input in
         let d = length-take (leading inLine (take 30 input)) (take 30 input) in

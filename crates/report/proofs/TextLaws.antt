@@ -1,40 +1,20 @@
 -- Laws of the printed lines: how long they are at most, and how the counts and the levels follow one another.
 use mathlib.Core.Path.{_≡_, refl, sym, ap, _∙_}
-use mathlib.Core.Bool.{Bool, true, false, cond}
 use mathlib.Core.List.{List, [], _∷_, _++_, append-assoc, append-nil}
-use Prim.Native.Nat.{ℕ, zero, suc, _+_, _*_, _-_, _/_, _%_, _≤_, _<_, min}
+use Prim.Native.Nat.{ℕ, zero, suc, _+_, _*_, _-_, _≤_, _<_}
 use native.Mathlib.Numerals.{add-one}
 use native.Mathlib.Omega.{arith}
-use lib.Dec.{ltb}
 use lib.IntN.{ℤ, pos, negsuc}
-use lib.ListN.{length, getD, take, drop, length-append, length-take, length-drop}
+use lib.ListN.{length, getD, take, drop, length-append, length-take, length-drop, take-append-drop}
 use lib.Seq.{take-suc, take-append-le, drop-append-le}
-use borrow.Author.Tests.{lt-ltb}
-use Rattle.text.specs.Digits.{zeroCode, lastDigits, digits}
+use Rattle.text.specs.Digits.{digits}
+use Rattle.text.proofs.DigitLaws.{digits-one, digits-at-most-ten}
 use Rattle.report.specs.Output.{endLine, signed, offsetText, countsText, levelText, levelsText}
-
-last-short : (k n : ℕ) → length (lastDigits k n) ≤ k
-unfolding lastDigits
-last-short zero n = omega arith
-last-short (suc k) n = tested (ltb n 10) (last-short k (n / 10))
-  where
-    tested : (t : Bool) → length (lastDigits k (n / 10)) ≤ k
-        → length (cond t ((zeroCode + n) ∷ []) (lastDigits k (n / 10) ++ ((zeroCode + n % 10) ∷ []))) ≤ suc k
-    tested true e = omega arith
-    tested false e = let a = length-append (lastDigits k (n / 10)) ((zeroCode + n % 10) ∷ []) in omega arith
-
-digits-short : (n : ℕ) → length (digits n) ≤ 10
-unfolding digits
-digits-short n = last-short 10 n
-
-digit-alone : (n : ℕ) → n < 10 → length (digits n) ≡ 1
-unfolding digits lastDigits
-digit-alone n l = let e : ltb n 10 ≡ true = lt-ltb n 10 l in rw e
 
 signed-short : (z : ℤ) → length (signed z) ≤ 11
 unfolding signed
-signed-short (pos n) = let a = digits-short n in omega arith
-signed-short (negsuc n) = let a = digits-short (suc n) in omega arith
+signed-short (pos n) = let a = digits-at-most-ten n in omega arith
+signed-short (negsuc n) = let a = digits-at-most-ten (suc n) in omega arith
 
 -- an offset line has 31 bytes at most
 pub offset-short : (dx dy : ℤ) → length (offsetText dx dy) ≤ 31
@@ -45,14 +25,14 @@ unfolding countsText
 counts-short [] = omega arith
 counts-short (c ∷ l) =
     let a = length-append (digits c) (countsText l) in
-    let b = digits-short c in
+    let b = digits-at-most-ten c in
     let d = counts-short l in
     omega arith
 
 -- a level's line has 102 bytes at most
 level-short : (halvings : ℕ) (counts : List ℕ) → halvings < 10 → length (levelText halvings counts) ≤ 102
 level-short halvings counts l =
-    let a = digit-alone halvings l in
+    let a = ap length (digits-one halvings l) in
     let b = counts-short (take 9 counts) in
     let c = length-take 9 counts in
     simp length-append (omega arith)
@@ -73,12 +53,23 @@ counts-append [] b = refl
 counts-append (c ∷ a) b = ap (λ (t : List ℕ). (32 ∷ []) ++ digits c ++ t) (counts-append a b) ∙ sym (append-assoc ((32 ∷ []) ++ digits c) (countsText a) (countsText b))
 
 pub counts-more : (l : List ℕ) (k : ℕ) → k < length l
-    → countsText (take (k + 1) l) ≡ countsText (take k l) ++ ((32 ∷ []) ++ digits (getD l k 0))
+    → countsText (take (k + 1) l) ≡ countsText (take k l) ++ (32 ∷ []) ++ digits (getD l k 0)
 unfolding countsText
 counts-more l k m =
     rw (add-one k, take-suc l k 0 m)
     (counts-append (take k l) (getD l k 0 ∷ [])
-    ∙ ap (λ (t : List ℕ). countsText (take k l) ++ t) (append-nil ((32 ∷ []) ++ digits (getD l k 0))))
+    ∙ ap (λ (t : List ℕ). countsText (take k l) ++ t) (append-nil ((32 ∷ []) ++ digits (getD l k 0)))
+    ∙ sym (append-assoc (countsText (take k l)) (32 ∷ []) (digits (getD l k 0))))
+
+-- the next count has room where all have
+pub counts-room : (l : List ℕ) (k : ℕ) → k < length l
+    → length (countsText (take k l)) + (1 + length (digits (getD l k 0))) ≤ length (countsText l)
+counts-room l k m =
+    let a = counts-append (take (k + 1) l) (drop (k + 1) l) in
+    let b = take-append-drop (k + 1) l in
+    let e : countsText l ≡ countsText (take k l) ++ (32 ∷ []) ++ digits (getD l k 0) ++ countsText (drop (k + 1) l) =
+        ap countsText (sym b) ∙ a ∙ ap (λ (t : List ℕ). t ++ countsText (drop (k + 1) l)) (counts-more l k m) in
+    rw e (simp length-append (omega arith))
 
 -- the coarsest level's line, and those after it
 pub levels-one : (s : ℕ) (counts : List ℕ) → s ≡ 0 → levelsText s counts ≡ levelText s counts

@@ -2,3 +2,4 @@
 pub mod SettingsLine
 pub mod SpacedNumbers
 pub mod Output
+pub mod Writes
