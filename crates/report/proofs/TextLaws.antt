@@ -11,7 +11,7 @@ use Rattle.text.specs.Digits.{digits}
 use Rattle.text.proofs.DigitLaws.{digits-one, digits-at-most-ten}
 use Rattle.report.specs.Output.{endLine, signed, offsetText, countsText, levelText, levelsText}
 
-signed-short : (z : ℤ) → length (signed z) ≤ 11
+pub signed-short : (z : ℤ) → length (signed z) ≤ 11
 unfolding signed
 signed-short (pos n) = let a = digits-at-most-ten n in omega arith
 signed-short (negsuc n) = let a = digits-at-most-ten (suc n) in omega arith
