@@ -9,13 +9,31 @@ use native.Mathlib.Omega.{arith}
 use lib.Dec.{eqb, leb}
 use lib.ListN.{length, getD, take, drop, length-take, List·getD-eq-default}
 use lib.Seq.{take-take}
-use borrow.Author.Tests.{eqb-true, leb-true}
+use borrow.Author.Tests.{eqb-true, eq-eqb, ne-eqb}
 use Rattle.rules.proofs.SumLaws.{order}
 use Rattle.text.specs.declared.Number.{Number}
 use Rattle.text.specs.Digits.{isDigit, leading, decimal, numberOf}
 use Rattle.report.specs.declared.Settings.{Settings}
 use Rattle.report.specs.SettingsLine.{lineOf, spaced, last, numbersOf, settingsOf}
 use Rattle.report.specs.SpacedNumbers.{withSpace, spacedNumber}
+
+-- A number and the byte after it.
+pub space-none : (line : List ℕ) (at : ℕ) → numberOf (drop at line) ≡ Number.Bad → spacedNumber line at ≡ Number.Bad
+unfolding spacedNumber withSpace
+space-none line at e = rw e
+
+module _ (line : List ℕ) (at v n : ℕ) (e : numberOf (drop at line) ≡ Number.Read v n) where
+  pub space-missing : length line ≤ at + n → spacedNumber line at ≡ Number.Bad
+  unfolding spacedNumber withSpace
+  space-missing l = rw (e, List·getD-eq-default line 0 l)
+
+  pub space-other : (getD line (at + n) 0 ≡ 32 → ⊥) → spacedNumber line at ≡ Number.Bad
+  unfolding spacedNumber withSpace
+  space-other d = rw (e, ne-eqb (getD line (at + n) 0) 32 d)
+
+  pub space-read : getD line (at + n) 0 ≡ 32 → spacedNumber line at ≡ Number.Read v (n + 1)
+  unfolding spacedNumber withSpace
+  space-read d = rw (e, eq-eqb (getD line (at + n) 0) 32 d)
 
 -- Reading a number together with its 32 is reading the number and looking at the next byte.
 pub spaced-none : (line : List ℕ) (at : ℕ) (next : ℕ → ℕ → Settings) → spacedNumber line at ≡ Number.Bad
@@ -77,7 +95,19 @@ pub second-none : (line : List ℕ) (s at : ℕ) → spacedNumber line 0 ≡ Num
 unfolding numbersOf
 second-none line s at e f = spaced-some line 0 s at _ e ∙ rw zero-add (spaced-none line at _ f)
 
-pub third-left : (line : List ℕ) (s at tolerance n : ℕ) → spacedNumber line 0 ≡ Number.Read s at → spacedNumber line at ≡ Number.Read tolerance n
-    → numbersOf line ≡ last line (at + n) (numberOf (drop (at + n) line)) (λ percentile. Settings.Given s tolerance percentile)
-unfolding numbersOf
-third-left line s at tolerance n e f = spaced-some line 0 s at _ e ∙ rw zero-add (spaced-some line at tolerance n _ f)
+module _ (line : List ℕ) (s at tolerance n : ℕ) (e : spacedNumber line 0 ≡ Number.Read s at) (f : spacedNumber line at ≡ Number.Read tolerance n) where
+  third-left : numbersOf line ≡ last line (at + n) (numberOf (drop (at + n) line)) (λ percentile. Settings.Given s tolerance percentile)
+  unfolding numbersOf
+  third-left = spaced-some line 0 s at _ e ∙ rw zero-add (spaced-some line at tolerance n _ f)
+
+  pub third-none : numberOf (drop (at + n) line) ≡ Number.Bad → numbersOf line ≡ Settings.Bad
+  unfolding last
+  third-none g = third-left ∙ rw g
+
+  pub third-other : (percentile k : ℕ) → numberOf (drop (at + n) line) ≡ Number.Read percentile k → (at + n + k ≡ length line → ⊥) → numbersOf line ≡ Settings.Bad
+  unfolding last
+  third-other percentile k g d = third-left ∙ rw (g, ne-eqb (at + n + k) (length line) d)
+
+  pub all-read : (percentile k : ℕ) → numberOf (drop (at + n) line) ≡ Number.Read percentile k → at + n + k ≡ length line → numbersOf line ≡ Settings.Given s tolerance percentile
+  unfolding last
+  all-read percentile k g d = third-left ∙ rw (g, eq-eqb (at + n + k) (length line) d)

@@ -29,13 +29,17 @@ counts-short (c ∷ l) =
     let d = counts-short l in
     omega arith
 
--- a level's line has 102 bytes at most
+-- the bytes of a level's line, 102 at most
+pub level-length : (halvings : ℕ) (counts : List ℕ) → length (levelText halvings counts) ≡ length (digits halvings) + length (countsText (take 9 counts)) + 2
+level-length halvings counts = simp length-append (omega arith)
+
 level-short : (halvings : ℕ) (counts : List ℕ) → halvings < 10 → length (levelText halvings counts) ≤ 102
 level-short halvings counts l =
     let a = ap length (digits-one halvings l) in
     let b = counts-short (take 9 counts) in
     let c = length-take 9 counts in
-    simp length-append (omega arith)
+    let d = level-length halvings counts in
+    omega arith
 
 pub levels-short : (s : ℕ) (counts : List ℕ) → s < 10 → length (levelsText s counts) ≤ 102 * (s + 1)
 unfolding levelsText
@@ -80,6 +84,12 @@ pub levels-more : (s : ℕ) (counts : List ℕ) → (s ≡ 0 → ⊥) → levels
 unfolding levelsText
 levels-more zero counts n = absurd (n refl)
 levels-more (suc s) counts n = let e : suc s - 1 ≡ s = omega arith in rw e
+
+-- the first line has room where all have
+pub levels-room : (s : ℕ) (counts : List ℕ) → length (levelText s counts) ≤ length (levelsText s counts)
+unfolding levelsText
+levels-room zero counts = omega arith
+levels-room (suc s) counts = let a = length-append (levelText (suc s) counts) (levelsText s (drop 9 counts)) in omega arith
 
 -- The lines look at the 9·(s + 1) counts alone, whatever stands after them.
 pub levels-enough : (s : ℕ) (counts rest : List ℕ) → length counts ≡ 9 * (s + 1) → levelsText s (counts ++ rest) ≡ levelsText s counts

@@ -1,27 +1,34 @@
+-- The line is the input's part of the length found.
+use mathlib.Core.Path.{sym, ap, _∙_}
+use mathlib.Core.Bool.{not}
+use Prim.Native.Nat.{ℕ}
 use native.Mathlib.Omega.{arith}
+use lib.Dec.{eqb}
+use lib.ListN.{take}
+use lib.Seq.{length-take-le}
 use borrow.Author.Needs.{needs}
+use Rattle.text.proofs.ReadLaws.{leading-in}
+use Rattle.report.specs.SettingsLine.{lineOf, numbersOf, settingsOf}
 use Rattle.report.proofs.parser.settings_of.Statement.{statement}
 use Rattle.report.proofs.parser.settings_of.Tie as tie
-use Rattle.report.proofs.parser.settings_of.Reads as reads
-use Rattle.report.proofs.parser.settings_of.Lts as lts
-use Rattle.report.proofs.parser.line_length.Reads as line-length-reads
-use Rattle.report.proofs.parser.numbers_of.Reads as numbers-of-reads
 
--- src/parser.rt:77:9
 line-length-requires : tie.Need-line-length-requires
 line-length-requires c κs = search needs
 
--- src/parser.rt:78:16
 slice-aggregate-numbers-of : tie.Need-slice-aggregate-numbers-of
-slice-aggregate-numbers-of c = ?
+slice-aggregate-numbers-of c =
+    let n = c .before .line-length in
+    let input = c .before .before .before .args .input .now in
+    sym (length-take-le (n .result) input (omega (arith, n .ensures, leading-in (λ b. not (eqb b 10)) input)))
 
--- src/parser.rt:78:5
 numbers-of-requires : tie.Need-numbers-of-requires
 numbers-of-requires c κs = search needs
 
--- src/parser.rt:74:1
 returns : tie.Need-returns
-returns c = ?
+unfolding settingsOf lineOf
+returns c =
+    c .numbers-of .ensures
+    ∙ ap (λ (n : ℕ). numbersOf (take n (c .before .before .before .before .args .input .now))) (c .before .before .line-length .ensures)
 
 pub settings-of-spec : {M : Type 1} → statement M
 settings-of-spec =
