@@ -3,4 +3,5 @@ pub mod LineLaws
 pub mod ReadLimits
 pub mod TextLaws
 pub mod WriteLaws
+pub mod OutputLaws
 pub mod MagnitudeLaws
