@@ -1,5 +1,6 @@
 // What the program `bracket` prints, from what it has read.
 
+pub mod files;
 pub mod parser;
 pub mod writer;
 

@@ -1,8 +1,10 @@
 // The printed lines, put into a buffer piece by piece. Each function answers the place after its text.
 
+use rules::Offset;
 use text::put;
 use text::put_number;
 ghost use mathlib.Core.Path.{_≡_};
+ghost use mathlib.Core.List.{_++_};
 ghost use Prim.Native.Nat.{_+_, _*_, _≤_};
 ghost use lib.IntN.{natAbs};
 ghost use lib.ListN.{length};
@@ -90,4 +92,15 @@ fn put_levels(out: &mut [u8], at: usize, s: u32, counts: &[u32]) -> usize
         return next;
     }
     put_levels(out, next, s - 1, &counts[9..])
+}
+
+// The offset line and the lines of the levels.
+pub fn put_aligned(out: &mut [u8], s: u32, offset: Offset, counts: &[u32]) -> usize
+    requires { ⌜ s ≤ 8 ⌝ }
+    requires { ⌜ 9 * (s + 1) ≤ length (now counts) ⌝ }
+    requires { ⌜ 1024 ≤ length (now out) ⌝ }
+    ensures { λ r. ⌜ Wrote 0 (offsetText (offset .dx) (offset .dy) ++ levelsText s (now (counts .entry))) (now (out .entry)) r (now (out .exit)) ⌝ }
+{
+    let at = put_offset(out, offset.dx, offset.dy);
+    put_levels(out, at, s, counts)
 }
