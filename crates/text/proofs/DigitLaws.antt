@@ -97,6 +97,10 @@ last-pass (suc k) n = split (ltb n 10) refl (last-pass k (n / 10))
         ∙ ap (λ (m : ℕ). length (lastDigits k (n / 10)) + m) (one (n % 10) (mod-lt n {m = 10} (omega arith)))
         ∙ sym (length-append (lastDigits k (n / 10)) ((zeroCode + n % 10) ∷ []))
 
+pub digits-pass : (n : ℕ) → leading isDigit (digits n) ≡ length (digits n)
+unfolding digits
+digits-pass n = last-pass 10 n
+
 last-value : (k n : ℕ) → n < 10 ^ suc k → decimal 0 (lastDigits (suc k) n) ≡ n
 unfolding lastDigits decimal
 last-value zero n l = rw (lt-ltb n 10 (omega arith)) (omega arith)
