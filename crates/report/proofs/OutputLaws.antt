@@ -18,7 +18,9 @@ use Rattle.align.proofs.AlignLaws.{counts-length}
 use Rattle.ppm.specs.declared.Size.{Size}
 use Rattle.ppm.specs.declared.Held.{Held}
 use Rattle.ppm.specs.P6.{headerOf, sizeIn, p6Refusal, rasterOf, held, sizeAnswer}
-use Rattle.report.specs.Output.{refusedText, offsetText, levelsText, alignedText, countsLent, greyLent, wordsLent, secondRaster, bracketRefusal, answerText, filesText}
+use Rattle.report.specs.declared.Settings.{Settings}
+use Rattle.report.specs.SettingsLine.{settingsOf}
+use Rattle.report.specs.Output.{settingsText, refusedText, offsetText, levelsText, alignedText, countsLent, greyLent, wordsLent, secondRaster, bracketRefusal, answerText, filesText, asRead, outputBy, bracketOutput}
 use Rattle.report.specs.PairTexts.{pairText, rasterOfSize}
 use Rattle.report.proofs.TextLaws.{levels-enough}
 
@@ -118,3 +120,14 @@ module _ (s tolerance percentile : ℕ) (first second : List ℕ) where
           ∙ rw (good1 .1, same-raster)
           (answer-same (number one s tolerance percentile (rasterOf first) (rasterOfSize one two second)) _ _
           (λ z. ap (λ (l : List ℕ). alignedText s (result one s tolerance percentile (rasterOf first) l)) (kept z)))
+
+-- The settings line, before any file.
+module _ (input first second : List ℕ) where
+  pub bad-line : settingsOf input ≡ Settings.Bad → bracketOutput input first second ≡ settingsText
+  unfolding bracketOutput outputBy
+  bad-line e = rw e
+
+  pub good-line : (s tolerance percentile : ℕ) → settingsOf input ≡ Settings.Given s tolerance percentile
+      → bracketOutput input first second ≡ filesText s tolerance percentile (asRead first) (asRead second)
+  unfolding bracketOutput outputBy
+  good-line s tolerance percentile e = rw e

@@ -1,13 +1,13 @@
 -- Texts put one after another.
 use mathlib.Core.Path.{_≡_, refl, sym, ap, subst, _∙_}
-use mathlib.Core.List.{List, [], _++_}
+use mathlib.Core.List.{List, [], _++_, append-nil}
 use Prim.Native.Nat.{ℕ, _+_, _≤_}
-use native.Mathlib.Nat.{add-zero}
+use native.Mathlib.Nat.{zero-add, add-zero}
 use native.Mathlib.Omega.{arith}
 use lib.ListN.{length, take, drop, length-append, take-append-drop}
-use mathlib.Core.List.{append-nil}
+use Rattle.rules.specs.Frames.{writtenOver}
 use Rattle.text.specs.Puts.{Put}
-use Rattle.text.proofs.PutLaws.{put-length, put-then}
+use Rattle.text.proofs.PutLaws.{put-length, put-then, put-written}
 use Rattle.report.specs.Writes.{Wrote}
 
 pub wrote-none : (at : ℕ) (before : List ℕ) → at ≤ length before → Wrote at [] before at before
@@ -36,3 +36,8 @@ wrote-more at t u before next mid last after a b = record {
 pub wrote-then : (at : ℕ) (t u before : List ℕ) (next : ℕ) (mid : List ℕ) (last : ℕ) (after : List ℕ)
     → Wrote at t before next mid → (last ≡ next + length u) × Put next u mid after → Wrote at (t ++ u) before last after
 wrote-then at t u before next mid last after a p = wrote-more at t u before next mid last after a (wrote-one next u mid last after p)
+
+-- a whole output at the beginning of its buffer
+pub wrote-all : (text before : List ℕ) (next : ℕ) (after : List ℕ) → Wrote 0 text before next after
+    → (next ≡ length text) × (after ≡ writtenOver text before)
+wrote-all text before next after w = (w .place ∙ zero-add (length text), put-written text before after (w .output))
