@@ -72,7 +72,7 @@ counts-room l k m =
     let a = counts-append (take (k + 1) l) (drop (k + 1) l) in
     let b = take-append-drop (k + 1) l in
     let e : countsText l ≡ countsText (take k l) ++ (32 ∷ []) ++ digits (getD l k 0) ++ countsText (drop (k + 1) l) =
-        ap countsText (sym b) ∙ a ∙ ap (λ (t : List ℕ). t ++ countsText (drop (k + 1) l)) (counts-more l k m) in
+    ap countsText (sym b) ∙ a ∙ ap (λ (t : List ℕ). t ++ countsText (drop (k + 1) l)) (counts-more l k m) in
     rw e (simp length-append (omega arith))
 
 -- the coarsest level's line, and those after it

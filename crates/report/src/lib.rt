@@ -34,7 +34,12 @@ pub fn report(
     ensures length { λ r. ⌜ r ≡ length (bracketOutput (now (input .entry)) (now (first .entry)) (now (second .entry))) ⌝ }
     ensures output { λ _. ⌜ now (out .exit) ≡ writtenOver (bracketOutput (now (input .entry)) (now (first .entry)) (now (second .entry))) (now (out .entry)) ⌝ }
 {
-    let Settings::Given { s, tolerance, percentile } = settings_of(input) else {
+    let Settings::Given {
+        s,
+        tolerance,
+        percentile,
+    } = settings_of(input)
+    else {
         return text::put(out, 0, b"settings\n");
     };
     put_files(

@@ -51,14 +51,26 @@ fn spaced_number(line: &[u8], at: usize) -> Number
 fn numbers_of(line: &[u8]) -> Settings
     ensures { λ r. ⌜ r ≡ numbersOf (now (line .entry)) ⌝ }
 {
-    let Number::Read { value: s, count: first } = spaced_number(line, 0) else {
+    let Number::Read {
+        value: s,
+        count: first,
+    } = spaced_number(line, 0)
+    else {
         return Settings::Bad;
     };
-    let Number::Read { value: tolerance, count: second } = spaced_number(line, first) else {
+    let Number::Read {
+        value: tolerance,
+        count: second,
+    } = spaced_number(line, first)
+    else {
         return Settings::Bad;
     };
     let at = first + second;
-    let Number::Read { value: percentile, count: third } = read_number(&line[at..]) else {
+    let Number::Read {
+        value: percentile,
+        count: third,
+    } = read_number(&line[at..])
+    else {
         return Settings::Bad;
     };
     if at + third != line.len() {

@@ -29,8 +29,7 @@ put-levels-requires : tie.Need-put-levels-requires
 put-levels-requires c κs =
     let b = c .before .before .before in
     let s = start b in
-    let w = offset-put b in
-    (
+    let w = offset-put b in (
       s .pre .1 .0,
       omega (
         arith,
