@@ -6,9 +6,10 @@ use Prim.Native.Nat.{ℕ, zero, suc, _+_, _*_, _≤_, _<_}
 use native.Mathlib.Nat.{mul-le-mul}
 use native.Mathlib.Omega.{arith}
 use lib.Dec.{eqb}
-use lib.ListN.{length, drop}
+use lib.ListN.{length, drop, length-append}
 use Rattle.rules.specs.declared.Offset.{Offset}
 use Rattle.rules.specs.declared.Paired.{Paired}
+use Rattle.rules.specs.Frames.{writtenOver}
 use Rattle.rules.specs.Answers.{paired, lent}
 use Rattle.rules.specs.Levels.{Aligned}
 use Rattle.rules.specs.Refusals.{_orElse_, pairRefusal}
@@ -131,3 +132,11 @@ module _ (input first second : List ℕ) where
       → bracketOutput input first second ≡ filesText s tolerance percentile (asRead first) (asRead second)
   unfolding bracketOutput outputBy
   good-line s tolerance percentile e = rw e
+
+  -- what a buffer holds is no longer than the buffer
+  pub output-fits : (before after : List ℕ) (n : ℕ)
+      → (n ≡ length (bracketOutput input first second)) × (after ≡ writtenOver (bracketOutput input first second) before) → n ≤ length after
+  output-fits before after n p =
+      let text : List ℕ = bracketOutput input first second in
+      let a = ap length (p .1) ∙ length-append text (drop (length text) before) in
+      omega arith
