@@ -1,18 +1,26 @@
 // The program `bracket`: reads the settings line and two files, and prints what `report` makes of them.
-// How much is read follows from what can matter: report's laws in proofs/ReadLimits say that more bytes
-// of standard input, or of a file, would print nothing else.
 
 use libc::STDIN_FILENO;
 use libc::STDOUT_FILENO;
+use report::GREY_LENT;
+use report::MAX_FILE;
+use report::OUTPUT_LENT;
+use report::WORDS_LENT;
 ghost use Rattle.io.specs.Counts.{Counts};
 
+// How much is read; report's proofs/ReadLimits shows that more would print nothing else. The longest
+// good line has 29 bytes, and one byte more than the most tells that a file is longer.
+const LINE: usize = 30;
+
+const FILE: usize = MAX_FILE + 1;
+
 fn main() {
-    let mut input = [0u8; 30];
-    let mut first = [0u8; 65537];
-    let mut second = [0u8; 65537];
-    let mut grey = [0u8; 65536];
-    let mut words = [0u64; 8192];
-    let mut out = [0u8; 1024];
+    let mut input = [0u8; LINE];
+    let mut first = [0u8; FILE];
+    let mut second = [0u8; FILE];
+    let mut grey = [0u8; GREY_LENT];
+    let mut words = [0u64; WORDS_LENT];
+    let mut out = [0u8; OUTPUT_LENT];
     let line = read_all(STDIN_FILENO, &mut input);
     let one = read_file(b"first.ppm", &mut first);
     let two = read_file(b"second.ppm", &mut second);

@@ -1,20 +1,19 @@
 -- Laws of the settings line.
-use mathlib.Core.Path.{_≡_, refl, sym, ap, _∙_}
+use mathlib.Core.Path.{_≡_, refl, _∙_}
 use mathlib.Core.Logic.{⊎-elim}
-use mathlib.Core.Bool.{Bool, true, false, not, _&&_, cond}
-use mathlib.Core.List.{List, [], _∷_}
-use Prim.Native.Nat.{ℕ, zero, suc, _+_, _≤_, _<_, min}
-use native.Mathlib.Nat.{zero-add, add-assoc, zero-min, min-zero, suc-min-suc}
+use mathlib.Core.Bool.{Bool, true, false, cond}
+use mathlib.Core.List.{List}
+use Prim.Native.Nat.{ℕ, _+_, _≤_, _<_}
+use native.Mathlib.Nat.{zero-add}
 use native.Mathlib.Omega.{arith}
-use lib.Dec.{eqb, leb}
-use lib.ListN.{length, getD, take, drop, length-take, List·getD-eq-default}
-use lib.Seq.{take-take}
+use lib.Dec.{eqb}
+use lib.ListN.{length, getD, drop, List·getD-eq-default}
 use borrow.Author.Tests.{eqb-true, eq-eqb, ne-eqb}
 use Rattle.rules.proofs.SumLaws.{order}
 use Rattle.text.specs.declared.Number.{Number}
-use Rattle.text.specs.Digits.{isDigit, leading, decimal, numberOf}
+use Rattle.text.specs.Digits.{numberOf}
 use Rattle.report.specs.declared.Settings.{Settings}
-use Rattle.report.specs.SettingsLine.{lineOf, spaced, last, numbersOf, settingsOf}
+use Rattle.report.specs.SettingsLine.{spaced, last, numbersOf}
 use Rattle.report.specs.SpacedNumbers.{withSpace, spacedNumber}
 
 -- A number and the byte after it.

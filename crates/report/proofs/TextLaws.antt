@@ -9,7 +9,7 @@ use lib.ListN.{length, getD, take, drop, length-append, length-take, length-drop
 use lib.Seq.{take-suc, take-append-le, drop-append-le}
 use Rattle.text.specs.Digits.{digits}
 use Rattle.text.proofs.DigitLaws.{digits-one, digits-at-most-ten}
-use Rattle.report.specs.Output.{endLine, signed, offsetText, countsText, levelText, levelsText}
+use Rattle.report.specs.Output.{signed, offsetText, countsText, levelText, levelsText}
 
 pub signed-short : (z : ℤ) → length (signed z) ≤ 11
 unfolding signed

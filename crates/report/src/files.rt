@@ -1,5 +1,9 @@
 // What is printed for two files.
 
+use crate::GREY_LENT;
+use crate::MAX_FILE;
+use crate::OUTPUT_LENT;
+use crate::WORDS_LENT;
 use crate::writer::put_aligned;
 use crate::writer::put_refused;
 use ppm::Held;
@@ -12,7 +16,8 @@ ghost use Rattle.report.specs.Output.{asRead, filesText};
 ghost use Rattle.report.specs.PairTexts.{pairText, rasterOfSize};
 ghost use Rattle.report.specs.Writes.{Wrote};
 
-const MAX_FILE: usize = 65536;
+// Counts for the most levels that there can be.
+const MAX_COUNTS: usize = 81;
 
 // The bytes of a file as it counts: a longer one counts as empty.
 pub fn as_read(file: &[u8]) -> &[u8]
@@ -38,7 +43,7 @@ fn raster_of_size(first: Size, second: Size, file: &[u8]) -> &[u8]
     p6_raster(file)
 }
 
-// The text for a pair of rasters; the counts have room for the most levels that there can be.
+// The text for a pair of rasters.
 fn put_pair(
     size: Size,
     s: u32,
@@ -46,13 +51,13 @@ fn put_pair(
     percentile: u32,
     first: &[u8],
     second: &[u8],
-    grey: &mut [u8; 65536],
-    words: &mut [u64; 8192],
-    out: &mut [u8; 1024],
+    grey: &mut [u8; GREY_LENT],
+    words: &mut [u64; WORDS_LENT],
+    out: &mut [u8; OUTPUT_LENT],
 ) -> usize
     ensures { λ r. ⌜ Wrote 0 (pairText size s tolerance percentile (now (first .entry)) (now (second .entry))) (now (out .entry)) r (now (out .exit)) ⌝ }
 {
-    let mut counts = [0u32; 81];
+    let mut counts = [0u32; MAX_COUNTS];
     let answer = align::pair(
         size.w,
         size.h,
@@ -78,9 +83,9 @@ pub fn put_files(
     percentile: u32,
     first: &[u8],
     second: &[u8],
-    grey: &mut [u8; 65536],
-    words: &mut [u64; 8192],
-    out: &mut [u8; 1024],
+    grey: &mut [u8; GREY_LENT],
+    words: &mut [u64; WORDS_LENT],
+    out: &mut [u8; OUTPUT_LENT],
 ) -> usize
     ensures { λ r. ⌜ Wrote 0 (filesText s tolerance percentile (now (first .entry)) (now (second .entry))) (now (out .entry)) r (now (out .exit)) ⌝ }
 {

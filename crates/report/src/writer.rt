@@ -13,7 +13,7 @@ ghost use Rattle.report.specs.Writes.{Wrote};
 
 // `refused`, a 32 and the number.
 pub fn put_refused(out: &mut [u8], n: u32) -> usize
-    requires { ⌜ 1024 ≤ length (now out) ⌝ }
+    requires { ⌜ 19 ≤ length (now out) ⌝ }
     ensures { λ r. ⌜ Wrote 0 (refusedText n) (now (out .entry)) r (now (out .exit)) ⌝ }
 {
     let at = put(out, 0, b"refused ");
@@ -44,7 +44,7 @@ fn put_signed(out: &mut [u8], at: usize, n: i32) -> usize
 
 // The offset line.
 fn put_offset(out: &mut [u8], dx: i32, dy: i32) -> usize
-    requires { ⌜ 1024 ≤ length (now out) ⌝ }
+    requires { ⌜ 31 ≤ length (now out) ⌝ }
     ensures { λ r. ⌜ Wrote 0 (offsetText dx dy) (now (out .entry)) r (now (out .exit)) ⌝ }
 {
     let at = put(out, 0, b"offset ");
@@ -98,7 +98,7 @@ fn put_levels(out: &mut [u8], at: usize, s: u32, counts: &[u32]) -> usize
 pub fn put_aligned(out: &mut [u8], s: u32, offset: Offset, counts: &[u32]) -> usize
     requires { ⌜ s ≤ 8 ⌝ }
     requires { ⌜ 9 * (s + 1) ≤ length (now counts) ⌝ }
-    requires { ⌜ 1024 ≤ length (now out) ⌝ }
+    requires { ⌜ 949 ≤ length (now out) ⌝ }
     ensures { λ r. ⌜ Wrote 0 (offsetText (offset .dx) (offset .dy) ++ levelsText s (now (counts .entry))) (now (out .entry)) r (now (out .exit)) ⌝ }
 {
     let at = put_offset(out, offset.dx, offset.dy);

@@ -30,11 +30,11 @@ second : (c : tie.After-known-told2) → spacedNumber (start2 c .args .line .now
 second c = sym (c .before .before .before .spaced-number2 .ensures) ∙ c .before .tolerance .given .1
 
 -- the third one begins within the line
-within : (c : tie.After-known-told2) → c .before .before .before .before .before .s .given .0 .1 .0 + c .before .tolerance .given .0 .1 .0 ≤ length (start2 c .args .line .now)
-within c = spaced-in (start2 c .args .line .now) _ _ _ (second c)
-
 abbrev at : tie.After-known-told2 → ℕ
 at c = c .before .before .before .before .before .s .given .0 .1 .0 + c .before .tolerance .given .0 .1 .0
+
+within : (c : tie.After-known-told2) → at c ≤ length (start2 c .args .line .now)
+within c = spaced-in (start2 c .args .line .now) _ _ _ (second c)
 
 answered : (c : tie.After-read-number) → numberOf (drop (at (c .before .before)) (start2 (c .before .before) .args .line .now)) ≡ c .read-number .result
 answered c = sym (c .read-number .ensures ∙ ap numberOf (part-to-end (start2 (c .before .before) .args .line .now) (at (c .before .before))))

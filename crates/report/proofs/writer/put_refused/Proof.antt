@@ -32,8 +32,7 @@ slice-aggregate-put-2 c = search needs
 
 put-requires-2 : tie.Need-put-requires-2
 put-requires-2 c κs =
-    let w = begun (c .before .before .before .before .before .before .before .before) in
-    let v = numbered (c .before .before .before .before) in
+    let w = numbered (c .before .before .before .before) in
     omega (arith, digits-at-most-ten (c .before .before .before .before .before .before .before .before .before .before .before .before .args .n))
 
 same-length : tie.Need-same-length
