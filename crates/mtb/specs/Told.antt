@@ -14,5 +14,5 @@ refusalIn Written.Done = 0
 refusalIn (Written.Refused n) = n
 
 -- what refuses a size and a number of halvings, whatever is lent
-unfoldable pub shapeRefusal : ℕ → ℕ → ℕ → ℕ
+abbrev pub shapeRefusal : ℕ → ℕ → ℕ → ℕ
 shapeRefusal w h s = 2 when badSize w h orElse 3 when badHalvings s orElse 4 when tooSmall w h s

@@ -6,8 +6,8 @@ ghost use Rattle.rules.specs.Calls.{pairNumber, pairResult, seriesNumber, setti
 ghost use Rattle.rules.specs.Refusals.{greyNeeded, wordsNeeded};
 ghost use Rattle.rules.specs.Series.{seriesAnswer};
 ghost use Rattle.mtb.specs.Told.{told, shapeRefusal};
-use align::pair;
 use crate::answers::refusal_in;
+use align::pair;
 use lending::level_pixels;
 use lending::shape_refusal;
 use refusals::row_words;
@@ -48,8 +48,10 @@ pub extern "C" fn mtb_pair(
         words,
     ) {
         Paired::Moved(offset) => {
-            *dx = offset.dx;
-            *dy = offset.dy;
+            let x = offset.dx;
+            let y = offset.dy;
+            *dx = x;
+            *dy = y;
             0
         }
         Paired::Refused(n) => n,

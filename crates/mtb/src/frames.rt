@@ -29,13 +29,7 @@ pub extern "C" fn mtb_halve(w: u32, h: u32, grey: &[u8], out: &mut [u8]) -> u32
 }
 
 #[no_mangle]
-pub extern "C" fn mtb_threshold(
-    w: u32,
-    h: u32,
-    percentile: u32,
-    grey: &[u8],
-    value: &mut u8,
-) -> u32
+pub extern "C" fn mtb_threshold(w: u32, h: u32, percentile: u32, grey: &[u8], value: &mut u8) -> u32
     ensures answer { λ n. ⌜ n ≡ thresholdRefusal w h percentile (length (now (grey .entry))) ⌝ }
     ensures value { λ _. ⌜ now (value .exit) ≡ told (thresholdRefusal w h percentile (length (now (grey .entry)))) (threshold w h percentile (frameOf w (now (grey .entry)))) (now (value .entry)) ⌝ }
 {

@@ -1,31 +1,33 @@
+-- Sizes and halvings that are not refused keep the sum over the levels small.
+use mathlib.Core.Path.{_≡_, sym, ap, _∙_}
+use Prim.Native.Nat.{ℕ, _*_}
 use native.Mathlib.Omega.{arith}
 use borrow.Author.Needs.{needs}
+use Rattle.rules.proofs.AlignmentLaws.{level-pixels-fit}
+use Rattle.mtb.proofs.NeededLaws.{ShapeOk, shape-ok, needed, none-needed}
 use Rattle.mtb.proofs.alignment.mtb_grey_needed.Statement.{statement}
 use Rattle.mtb.proofs.alignment.mtb_grey_needed.Tie as tie
-use Rattle.mtb.proofs.alignment.mtb_grey_needed.Reads as reads
-use Rattle.mtb.proofs.alignment.mtb_grey_needed.Lts as lts
-use Rattle.lending.proofs.level_pixels.Reads as level-pixels-reads
-use Rattle.lending.proofs.shape_refusal.Reads as shape-refusal-reads
 
--- src/alignment.rt:100:8
 shape-refusal-requires : tie.Need-shape-refusal-requires
 shape-refusal-requires c κs = search needs
 
--- src/alignment.rt:101:9
 returns : tie.Need-returns
-returns c = ?
+returns c = none-needed _ _ _ (c .before .shape-refusal .ensures) (c .if1 .taken)
 
--- src/alignment.rt:103:9
+accepted : (c : tie.Else1) → let a = c .before .before .args in ShapeOk (a .w) (a .h) (a .s)
+accepted c = let a = c .before .before .args in shape-ok (a .w) (a .h) (a .s) (sym (c .before .shape-refusal .ensures) ∙ c .if1 .left)
+
 level-pixels-requires : tie.Need-level-pixels-requires
-level-pixels-requires c κs = search needs
+level-pixels-requires c κs = let k = accepted c in (k .size .width, k .size .height, k .halvings)
 
--- src/alignment.rt:103:5
 mul-result : tie.Need-mul-result
-mul-result c = search needs
+mul-result c =
+    let a = c .before .before .before .args in
+    let k = accepted (c .before) in
+    omega (arith, c .level-pixels .ensures, level-pixels-fit (a .s) (a .w) (a .h) (k .size .width) (k .size .height))
 
--- src/alignment.rt:96:1
 returns-2 : tie.Need-returns-2
-returns-2 c = ?
+returns-2 c = needed _ _ _ _ (c .before .before .shape-refusal .ensures) (c .before .if1 .left) (ap (λ (n : ℕ). 2 * n) (c .level-pixels .ensures))
 
 pub mtb-grey-needed-spec : {M : Type 1} → statement M
 mtb-grey-needed-spec =

@@ -1,35 +1,34 @@
+-- Sizes that are not refused keep the words of a bitmap few.
+use mathlib.Core.Path.{_≡_, sym, ap, _∙_}
+use Prim.Native.Nat.{ℕ, _*_}
 use native.Mathlib.Omega.{arith}
 use borrow.Author.Needs.{needs}
+use Rattle.mtb.proofs.NeededLaws.{ShapeOk, shape-ok, needed, none-needed}
 use Rattle.mtb.proofs.alignment.mtb_words_needed.Statement.{statement}
 use Rattle.mtb.proofs.alignment.mtb_words_needed.Tie as tie
-use Rattle.mtb.proofs.alignment.mtb_words_needed.Reads as reads
-use Rattle.mtb.proofs.alignment.mtb_words_needed.Lts as lts
-use Rattle.lending.proofs.shape_refusal.Reads as shape-refusal-reads
-use Rattle.refusals.proofs.row_words.Reads as row-words-reads
 
--- src/alignment.rt:111:8
 shape-refusal-requires : tie.Need-shape-refusal-requires
 shape-refusal-requires c κs = search needs
 
--- src/alignment.rt:112:9
 returns : tie.Need-returns
-returns c = ?
+returns c = none-needed _ _ _ (c .before .shape-refusal .ensures) (c .if1 .taken)
 
--- src/alignment.rt:114:10
 row-words-requires : tie.Need-row-words-requires
 row-words-requires c κs = search needs
 
--- src/alignment.rt:114:10
+accepted : (c : tie.Else1) → let a = c .before .before .args in ShapeOk (a .w) (a .h) (a .s)
+accepted c = let a = c .before .before .args in shape-ok (a .w) (a .h) (a .s) (sym (c .before .shape-refusal .ensures) ∙ c .if1 .left)
+
 mul-result : tie.Need-mul-result
-mul-result c = search needs
+mul-result c = rw (c .row-words .ensures) (omega (arith, accepted (c .before) .size .bitmap))
 
--- src/alignment.rt:114:5
 mul-result-2 : tie.Need-mul-result-2
-mul-result-2 c = search needs
+mul-result-2 c = rw (c .row-words .ensures) (omega (arith, accepted (c .before) .size .bitmap))
 
--- src/alignment.rt:107:1
 returns-2 : tie.Need-returns-2
-returns-2 c = ?
+returns-2 c =
+    let a = c .before .before .before .args in
+    needed _ _ _ _ (c .before .before .shape-refusal .ensures) (c .before .if1 .left) (ap (λ (n : ℕ). 6 * (n * a .h)) (c .row-words .ensures))
 
 pub mtb-words-needed-spec : {M : Type 1} → statement M
 mtb-words-needed-spec =

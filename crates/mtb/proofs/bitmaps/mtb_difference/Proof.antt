@@ -1,30 +1,36 @@
-use native.Mathlib.Omega.{arith}
+-- An accepted call's value is told; a refused one's number is, and the pointer's place is left.
+use mathlib.Core.Path.{_≡_, sym, _∙_}
+use mir.Facts.{toZ-ofZ}
 use borrow.Author.Needs.{needs}
+use Rattle.rules.specs.Calls.{differenceAnswer}
+use Rattle.mtb.proofs.ToldLaws.{counted-count, counted-refused}
 use Rattle.mtb.proofs.bitmaps.mtb_difference.Statement.{statement}
 use Rattle.mtb.proofs.bitmaps.mtb_difference.Tie as tie
-use Rattle.mtb.proofs.bitmaps.mtb_difference.Reads as reads
-use Rattle.mtb.proofs.bitmaps.mtb_difference.Lts as lts
-use Rattle.count.proofs.difference.Reads as difference-reads
 
--- src/bitmaps.rt:83:11
 difference-requires : tie.Need-difference-requires
 difference-requires c κs = search needs
 
--- src/bitmaps.rt:93:24
 enum-known-pixels : tie.Need-enum-known-pixels
 enum-known-pixels c = search needs
 
--- src/bitmaps.rt:97:26
 enum-known-n : tie.Need-enum-known-n
 enum-known-n c = search needs
 
--- src/bitmaps.rt:68:1
-returns : tie.Need-returns
-returns c = ?
+-- the answer at the moves as they were passed
+answered : (c : tie.After-difference)
+    → let a = c .before .before .before .before .before .args in
+    c .difference .result ≡ differenceAnswer (a .w) (a .h) (a .dx) (a .dy) (a .threshold1 .now) (a .exclusion1 .now) (a .threshold2 .now) (a .exclusion2 .now)
+answered c =
+    let s = c .before .before .before .before .before in
+    let a = s .args in
+    c .difference .ensures
+    ∙ (λ i. differenceAnswer (a .w) (a .h) (toZ-ofZ (s .fits .dx) i) (toZ-ofZ (s .fits .dy) i) (a .threshold1 .now) (a .exclusion1 .now) (a .threshold2 .now) (a .exclusion2 .now))
 
--- src/bitmaps.rt:68:1
+returns : tie.Need-returns
+returns c = counted-count _ _ _ _ (sym (c .before .pixels .given .1) ∙ answered (c .before .before .before))
+
 returns-2 : tie.Need-returns-2
-returns-2 c = ?
+returns-2 c = counted-refused _ _ _ _ (sym (c .before .n .given .1) ∙ answered (c .before .before .before))
 
 pub mtb-difference-spec : {M : Type 1} → statement M
 mtb-difference-spec =

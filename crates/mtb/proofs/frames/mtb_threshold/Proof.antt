@@ -1,30 +1,26 @@
-use native.Mathlib.Omega.{arith}
+-- An accepted call's value is told; a refused one's number is, and the pointer's place is left.
+use mathlib.Core.Path.{sym, _∙_}
 use borrow.Author.Needs.{needs}
+use Rattle.mtb.proofs.ToldLaws.{thresholded-at, thresholded-refused}
 use Rattle.mtb.proofs.frames.mtb_threshold.Statement.{statement}
 use Rattle.mtb.proofs.frames.mtb_threshold.Tie as tie
-use Rattle.mtb.proofs.frames.mtb_threshold.Reads as reads
-use Rattle.mtb.proofs.frames.mtb_threshold.Lts as lts
-use Rattle.threshold.proofs.threshold.Reads as threshold-reads
 
--- src/frames.rt:42:11
 threshold-requires : tie.Need-threshold-requires
 threshold-requires c κs = search needs
 
--- src/frames.rt:43:25
 enum-known-t : tie.Need-enum-known-t
 enum-known-t c = search needs
 
--- src/frames.rt:47:30
 enum-known-n : tie.Need-enum-known-n
 enum-known-n c = search needs
 
--- src/frames.rt:31:1
 returns : tie.Need-returns
-returns c = ?
+returns c =
+    thresholded-at _ _ _ _ (sym (c .before .t .given .1) ∙ c .before .before .before .threshold .ensures)
 
--- src/frames.rt:31:1
 returns-2 : tie.Need-returns-2
-returns-2 c = ?
+returns-2 c =
+    thresholded-refused _ _ _ _ (sym (c .before .n .given .1) ∙ c .before .before .before .threshold .ensures)
 
 pub mtb-threshold-spec : {M : Type 1} → statement M
 mtb-threshold-spec =
