@@ -4,3 +4,4 @@ mod alignment;
 mod answers;
 mod bitmaps;
 mod frames;
+mod views;
