@@ -13,7 +13,7 @@ shape-refusal-requires : tie.Need-shape-refusal-requires
 shape-refusal-requires c κs = search needs
 
 returns : tie.Need-returns
-returns c = told-refused _ _ _ (λ z. c .if1 .taken (c .before .shape-refusal .ensures ∙ z))
+returns c = told-refused _ _ _ _ (c .before .shape-refusal .ensures) (c .if1 .taken)
 
 accepted : (c : tie.Else1) → let a = c .before .before .args in ShapeOk (a .w) (a .h) (a .s)
 accepted c = let a = c .before .before .args in shape-ok (a .w) (a .h) (a .s) (sym (c .before .shape-refusal .ensures) ∙ c .if1 .left)

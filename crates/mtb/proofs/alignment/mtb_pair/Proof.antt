@@ -52,7 +52,7 @@ returns-2 : tie.Need-returns-2
 returns-2 c =
     let call = c .before .before .before .before .before .before .before .before .before .pair in
     let m = paired-refused _ _ _ (sym (c .before .n .given .1) ∙ call .ensures .0) in
-    (m .0, (told-refused _ _ _ (m .1), (told-refused _ _ _ (m .1), call .ensures .1)))
+    (m .0, (told-refused _ _ _ _ (m .0) (m .1), (told-refused _ _ _ _ (m .0) (m .1), call .ensures .1)))
 
 pub mtb-pair-spec : {M : Type 1} → statement M
 mtb-pair-spec =

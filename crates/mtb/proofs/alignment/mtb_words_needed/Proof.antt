@@ -12,7 +12,7 @@ shape-refusal-requires : tie.Need-shape-refusal-requires
 shape-refusal-requires c κs = search needs
 
 returns : tie.Need-returns
-returns c = told-refused _ _ _ (λ z. c .if1 .taken (c .before .shape-refusal .ensures ∙ z))
+returns c = told-refused _ _ _ _ (c .before .shape-refusal .ensures) (c .if1 .taken)
 
 row-words-requires : tie.Need-row-words-requires
 row-words-requires c κs = search needs

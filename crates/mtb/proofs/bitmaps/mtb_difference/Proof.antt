@@ -34,7 +34,7 @@ returns c =
 returns-2 : tie.Need-returns-2
 returns-2 c =
     let m = counted-refused _ _ _ (sym (c .before .n .given .1) ∙ answered (c .before .before .before)) in
-    (m .0, told-refused _ _ _ (m .1))
+    (m .0, told-refused _ _ _ _ (m .0) (m .1))
 
 pub mtb-difference-spec : {M : Type 1} → statement M
 mtb-difference-spec =

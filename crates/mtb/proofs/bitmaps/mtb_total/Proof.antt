@@ -22,7 +22,7 @@ returns c =
 returns-2 : tie.Need-returns-2
 returns-2 c =
     let m = counted-refused _ _ _ (sym (c .before .n .given .1) ∙ c .before .before .before .total .ensures) in
-    (m .0, told-refused _ _ _ (m .1))
+    (m .0, told-refused _ _ _ _ (m .0) (m .1))
 
 pub mtb-total-spec : {M : Type 1} → statement M
 mtb-total-spec = tie.close (tie.spec total-requires enum-known-ones enum-known-n returns returns-2)

@@ -26,7 +26,7 @@ returns c =
 returns-2 : tie.Need-returns-2
 returns-2 c =
     let m = row-refused _ _ _ (sym (c .before .n .given .1) ∙ c .before .before .before .blink-start .ensures) in
-    (m .0, (told-refused _ _ _ (m .1), told-refused _ _ _ (m .1)))
+    (m .0, (told-refused _ _ _ _ (m .0) (m .1), told-refused _ _ _ _ (m .0) (m .1)))
 
 pub mtb-blink-row-spec : {M : Type 1} → statement M
 mtb-blink-row-spec =
