@@ -16,7 +16,8 @@
  *
  * SETTINGS
  *   s           halvings, 0 to 8. Frames are aligned on s + 1 levels, each half as wide and high as the
- *               one before. Both sides must be 2^(s+2) at least; offsets reach 2^(s+1) - 1 each way.
+ *               one before. Both sides must be 2^(s+2) at least; a pair's offset reaches 2^(s+1) - 1
+ *               pixels each way.
  *   tolerance   0 to 64. Pixels whose grey value is that close to the threshold are left out.
  *   percentile  17, 50 or 83: where the threshold lies among a frame's grey values; 50 is the median.
  *
@@ -28,8 +29,8 @@
  *
  * WHAT IS LENT
  *   A slice is a pointer and a number of elements (not of bytes). All memory is the caller's, and lent
- *   until the call returns. Nothing is kept between calls: no heap, no file, no global variable, nothing
- *   to set up or to free. The caller sees to it that
+ *   until the call returns. Nothing is kept between calls: no heap, no file, no global variable,
+ *   nothing to set up or to free. The caller sees to it that
  *   - no pointer is NULL, also where its length is 0;
  *   - a pointer is aligned for its type (uint64_t and size_t to 8 bytes, uint32_t and int32_t to 4),
  *     and that many elements are there;
@@ -52,9 +53,9 @@
  *   series of up to 16 frames. Another build of the archive may differ: leave a margin.
  *
  * PROOF
- *   The functions are written in Rattle and proved to meet their contracts: for all inputs lent as above
- *   the result, and every number written, is that of the definitions in crates/NAME/specs/. What this
- *   rests on is said in docs/TRUST.md.
+ *   The functions are written in Rattle and proved to meet their contracts: for all inputs lent as
+ *   above the result, and every number written, is that of the definitions in crates/NAME/specs/.
+ *   docs/TRUST.md says what this rests on.
  */
 #ifndef MTB_H
 #define MTB_H
@@ -185,7 +186,8 @@ uint32_t mtb_series(uint32_t w, uint32_t h, uint32_t s, uint32_t tolerance, uint
 
 /*
  * The work memory of mtb_pair and mtb_series. Bytes of grey: twice the pixels of all levels. Words of
- * 64 bits: 6*W*h. For 1920 by 1080 and s = 6 that is 5529000 bytes and 194400 words.
+ * 64 bits: 6*W*h. For 1920 by 1080 and s = 6 that is 5529000 bytes and 194400 words; the most, for
+ * 4096 by 4096 and s = 8, is 44739072 bytes and 1572864 words.
  * These two return 0 where refusal 2, 3 or 4 applies to w, h and s.
  */
 size_t mtb_grey_needed(uint32_t w, uint32_t h, uint32_t s);

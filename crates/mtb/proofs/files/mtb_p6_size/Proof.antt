@@ -24,10 +24,10 @@ small : (c : tie.After-size) → SmallSize (c .size .given .0 .0)
 small c = let m = accepted c in rw (m .1) (size-small _ (sym (m .0)))
 
 cast-w : tie.Need-cast-w
-cast-w c = omega (arith, small (c .before .before) .w)
+cast-w c = omega (arith, small (c .before .before))
 
 cast-h : tie.Need-cast-h
-cast-h c = omega (arith, small (c .before .before .before) .h)
+cast-h c = omega (arith, small (c .before .before .before))
 
 enum-known-n : tie.Need-enum-known-n
 enum-known-n c = search needs

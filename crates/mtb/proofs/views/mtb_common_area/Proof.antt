@@ -25,16 +25,16 @@ small : (c : tie.After-area) → SmallArea (c .area .given .0 .0)
 small c = let m = accepted c in rw (m .1) (area-small _ _ _ _ (sym (m .0)))
 
 cast-left : tie.Need-cast-left
-cast-left c = omega (arith, small (c .before .before) .left)
+cast-left c = omega (arith, small (c .before .before))
 
 cast-right : tie.Need-cast-right
-cast-right c = omega (arith, small (c .before .before .before) .right)
+cast-right c = omega (arith, small (c .before .before .before))
 
 cast-top : tie.Need-cast-top
-cast-top c = omega (arith, small (c .before .before .before .before) .top)
+cast-top c = omega (arith, small (c .before .before .before .before))
 
 cast-bottom : tie.Need-cast-bottom
-cast-bottom c = omega (arith, small (c .before .before .before .before .before) .bottom)
+cast-bottom c = omega (arith, small (c .before .before .before .before .before))
 
 enum-known-k : tie.Need-enum-known-k
 enum-known-k c = search needs
