@@ -20,7 +20,7 @@ use Rattle.rules.proofs.RefusalLaws.{size-ok, when-no, orElse-no, or-no, length
 use Rattle.rules.proofs.SignedLaws.{sum-fits, small-fits}
 use Rattle.area.specs.declared.Area.{Area}
 use Rattle.area.specs.declared.Common.{Common}
-use Rattle.area.specs.Common.{dxOf, dyOf, larger, smaller, lowSide, highSide, outside, someOutside, nothingCommon, areaRefusal, commonArea, common}
+use Rattle.area.specs.Common.{dxOf, larger, smaller, lowSide, highSide, outside, someOutside, nothingCommon, areaRefusal, commonArea, common}
 use Rattle.area.specs.Sides.{axisOf, offsetsRefusal, InRange}
 
 -- ---- numbers as the machine reads them

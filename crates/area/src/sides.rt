@@ -25,6 +25,7 @@ fn smaller(a: i32, b: i32) -> i32
     a
 }
 
+// The first column or row that every frame has.
 pub fn low_side(offsets: &[i32], n: usize, axis: usize) -> i32
     requires { ⌜ (2 * n ≤ length (now offsets)) × (axis < 2) ⌝ }
     ensures { λ r. ⌜ r ≡ lowSide n (axisOf (now (offsets .entry)) axis) ⌝ }
@@ -38,6 +39,7 @@ pub fn low_side(offsets: &[i32], n: usize, axis: usize) -> i32
     low
 }
 
+// The one after the last column or row that every frame has.
 pub fn high_side(offsets: &[i32], n: usize, axis: usize, side: usize) -> i32
     requires { ⌜ (2 * n ≤ length (now offsets)) × (axis < 2) × (side ≤ maxSide) ⌝ }
     requires { ⌜ InRange (now offsets) ⌝ }

@@ -21,6 +21,7 @@ fn lower(a: usize, b: usize) -> usize
     if a < b { a } else { b }
 }
 
+// The span of a side that is moved by d.
 pub fn clip(side: usize, d: i32) -> Span
     ensures { λ r. ⌜ Clipped side d r ⌝ }
 {

@@ -69,6 +69,7 @@ fn place_row(raster: &[u8], out: &mut [u8], y: usize, w: usize, h: usize, column
     clear(out, to, 3 * w);
 }
 
+// Every row of the moved frame.
 pub fn place_rows(raster: &[u8], out: &mut [u8], w: usize, h: usize, columns: Span, rows: Span)
     requires sized { ⌜ Sized w h (length (now raster)) (length (now out)) ⌝ }
     requires columns { ⌜ Inside w columns ⌝ }

@@ -1,7 +1,7 @@
 -- A refused call answers its number; what is left to ask is whether the area is empty.
 use mathlib.Core.Path.{sym, _∙_}
 use borrow.Author.Needs.{needs}
-use Rattle.area.proofs.SideLaws.{refusal-split, refused-first, OffsetsOk, offsets-ok}
+use Rattle.area.proofs.SideLaws.{refusal-split, refused-first, offsets-ok}
 use Rattle.area.proofs.common_area.Statement.{statement}
 use Rattle.area.proofs.common_area.Tie as tie
 

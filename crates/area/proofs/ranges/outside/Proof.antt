@@ -1,6 +1,4 @@
 -- Each return is a case of the first test.
-use mathlib.Core.Path.{_∙_}
-use mathlib.Core.Bool.{true, false}
 use mir.Facts.{toZ-ofZ}
 use Rattle.area.specs.Common.{outside}
 use Rattle.area.proofs.ranges.outside.Statement.{statement}

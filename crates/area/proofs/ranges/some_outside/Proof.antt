@@ -2,7 +2,8 @@
 use mathlib.Core.Path.{_≡_, refl, sym, ap, _∙_}
 use Prim.Native.Nat.{_-_, _≤_}
 use native.Mathlib.Omega.{arith}
-use lib.ListN.{length, drop}
+use lib.IntN.{pos}
+use lib.ListN.{length, getD, drop}
 use borrow.Author.Needs.{needs}
 use Rattle.area.specs.Common.{outside, someOutside}
 use Rattle.area.proofs.SideLaws.{read-back, outside-rest, outside-here, outside-none}
@@ -27,12 +28,16 @@ shared-slice-copy-out-outside c = search needs
 outside-requires : tie.Need-outside-requires Inv-loop μ-loop
 outside-requires c κs = search needs
 
+-- what the call tells of number k
+told : (c : tie.After-outside Inv-loop μ-loop)
+    → c .outside .result ≡ outside (getD (c .before .before .before .before .args .offsets .now) (c .before .before .before .loop .k) (pos 0))
+told c = c .outside .ensures ∙ ap outside (read-back _ (c .before .outside-arg .given))
+
 returns : tie.Need-returns Inv-loop μ-loop
 returns c =
     let lp = c .before .before .before .before .loop in
     let l = c .before .before .before .before .before .args .offsets .now in
-    let e = ap outside (sym (read-back _ (c .before .before .outside-arg .given))) ∙ sym (c .before .outside .ensures) ∙ c .if1 .taken in
-    sym (outside-here l (lp .k) (lp .inv .1) (c .before .before .before .loop-test .taken) e)
+    sym (outside-here l (lp .k) (lp .inv .1) (c .before .before .before .loop-test .taken) (sym (told (c .before)) ∙ c .if1 .taken))
 
 add-k : tie.Need-add-k Inv-loop μ-loop
 add-k c = search needs
@@ -44,8 +49,7 @@ loop-again : tie.Need-loop-again Inv-loop μ-loop
 loop-again c =
     let lp = c .before .before .before .before .loop in
     let l = c .before .before .before .before .before .args .offsets .now in
-    let e = ap outside (sym (read-back _ (c .before .before .outside-arg .given))) ∙ sym (c .before .outside .ensures) ∙ c .if1 .left in
-    (omega arith, outside-rest l (lp .k) (lp .inv .1) (c .before .before .before .loop-test .taken) e)
+    (omega arith, outside-rest l (lp .k) (lp .inv .1) (c .before .before .before .loop-test .taken) (sym (told (c .before)) ∙ c .if1 .left))
 
 returns-2 : tie.Need-returns-2 Inv-loop μ-loop
 returns-2 c =
