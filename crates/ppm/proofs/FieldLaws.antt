@@ -6,7 +6,7 @@ use Prim.Native.Nat.{ℕ, _+_, _-_, _≤_, _<_}
 use native.Mathlib.Omega.{arith}
 use lib.Dec.{leb}
 use lib.ListN.{length, take, drop, length-drop}
-use lib.Seq.{take-all}
+use lib.Seq.{take-all, drop-at, drop-drop}
 use borrow.Author.Tests.{le-leb, ne-eqb}
 use Rattle.text.specs.declared.Number.{Number}
 use Rattle.text.specs.Digits.{isDigit, leading, numberOf, digits}
@@ -36,35 +36,38 @@ pub field-read : (l : List ℕ) (blanks value count : ℕ) → blanks ≡ leadin
 unfolding fieldOf placed
 field-read l blanks value count e k b = rw (← e, b, le-leb 1 blanks k)
 
--- What is known of a field that was read.
-pub field-ok : (l : List ℕ) (value count : ℕ) → fieldOf l ≡ Number.Read value count → (value < 1000000000) × (count ≤ length l)
+-- A field that was read lies in the bytes.
+field-in : (l : List ℕ) (value count : ℕ) → fieldOf l ≡ Number.Read value count → count ≤ length l
 unfolding fieldOf placed
-field-ok l value count e = split (numberOf (drop n l)) refl e
+field-in l value count e = split (numberOf (drop n l)) refl e
   where
     n : ℕ
     n = leading isWhite l
 
-    read : (t : Bool) (v k : ℕ) → numberOf (drop n l) ≡ Number.Read v k → cond t (Number.Read v (n + k)) Number.Bad ≡ Number.Read value count
-        → (value < 1000000000) × (count ≤ length l)
+    read : (t : Bool) (v k : ℕ) → numberOf (drop n l) ≡ Number.Read v k → cond t (Number.Read v (n + k)) Number.Bad ≡ Number.Read value count → count ≤ length l
     read true v k a e =
         let s = read-ok (drop n l) v k a in
-        let x : v ≡ value = cc in
         let y : n + k ≡ count = cc in
-        let d = length-drop n l in
-        let i = leading-in isWhite l in
-        omega arith
+        omega (arith, length-drop n l, leading-in isWhite l)
     read false v k a e = absurd (let z : _≡_ {A = ℕ} 0 1 = cc in omega arith)
 
-    split : (m : Number) → numberOf (drop n l) ≡ m → placed n m ≡ Number.Read value count → (value < 1000000000) × (count ≤ length l)
+    split : (m : Number) → numberOf (drop n l) ≡ m → placed n m ≡ Number.Read value count → count ≤ length l
     split Number.Bad a e = absurd (let z : _≡_ {A = ℕ} 0 1 = cc in omega arith)
     split (Number.Read v k) a e = read (leb 1 n) v k a e
 
--- The same at place `at` of a file, where the slice lent to the field's reader is the rest of the file.
+-- A field at place `at` of a file, where the slice lent to the field's reader is the rest of the file.
 pub field-told : (file : List ℕ) (at : ℕ) (n r : Number) → r ≡ fieldOf (take (length file - at) (drop at file)) → r ≡ n → fieldOf (drop at file) ≡ n
 field-told file at n r e g = ap fieldOf (sym (rest-whole file at)) ∙ sym e ∙ g
 
-pub field-within : (file : List ℕ) (at value count : ℕ) → at ≤ length file → fieldOf (drop at file) ≡ Number.Read value count → at + count ≤ length file
-field-within file at value count l e = let a = field-ok (drop at file) value count e in let b = length-drop at file in omega arith
+pub record FieldAt (file : List ℕ) (at value count : ℕ) : Type 0 where
+  pub is : fieldOf (drop at file) ≡ Number.Read value count
+  pub within : at + count ≤ length file
+
+pub field-at : (file : List ℕ) (at value count : ℕ) (r : Number) → at ≤ length file → r ≡ fieldOf (take (length file - at) (drop at file))
+    → r ≡ Number.Read value count → FieldAt file at value count
+field-at file at value count r l e g =
+    let is = field-told file at (Number.Read value count) r e g in
+    record { is = is; within = omega (arith, field-in (drop at file) value count is, length-drop at file) }
 
 -- A digit is no whitespace.
 digit-ink : (b : ℕ) → isDigit b ≡ true → isWhite b ≡ false
@@ -79,7 +82,7 @@ ink-leads [] k = absurd (omega arith)
 ink-leads (b ∷ l) k = leading-none isWhite b l (digit-ink b (leading-pass isDigit (b ∷ l) 0 k))
 
 -- A field as the writer puts it: a byte of whitespace, and digits up to a byte that is none.
-pub field-written : (b n : ℕ) (l : List ℕ) → isWhite b ≡ true → n < 1000000000 → leading isDigit l ≡ 0
+field-written : (b n : ℕ) (l : List ℕ) → isWhite b ≡ true → n < 1000000000 → leading isDigit l ≡ 0
     → fieldOf (b ∷ (digits n ++ l)) ≡ Number.Read n (1 + length (digits n))
 unfolding leading
 field-written b n l e k m = sym (field-read (b ∷ (digits n ++ l)) 1 n (length (digits n)) (sym blank) (omega arith) (read-digits n l k m))
@@ -89,3 +92,11 @@ field-written b n l e k m = sym (field-read (b ∷ (digits n ++ l)) 1 n (length 
 
     blank : leading isWhite (b ∷ (digits n ++ l)) ≡ 1
     blank = rw (e, ink-leads (digits n ++ l) ink)
+
+-- A field that was written at place `at`, and what follows it.
+pub field-next : (file : List ℕ) (at b n : ℕ) (l : List ℕ) → drop at file ≡ b ∷ (digits n ++ l) → isWhite b ≡ true → n < 1000000000 → leading isDigit l ≡ 0
+    → let count = 1 + length (digits n) in (fieldOf (drop at file) ≡ Number.Read n count) × (drop (at + count) file ≡ l)
+field-next file at b n l d e k m = (
+  ap fieldOf d ∙ field-written b n l e k m,
+  sym (drop-drop (1 + length (digits n)) at file) ∙ rw d (drop-at (b ∷ digits n) l (1 + length (digits n)) (omega arith)),
+)

@@ -1,31 +1,22 @@
 -- What the writer wrote is read again: field by field, then the raster that follows.
 use mathlib.Core.Path.{_≡_, refl, sym, ap, _∙_}
-use mathlib.Core.Bool.{true, false}
+use mathlib.Core.Bool.{false}
 use mathlib.Core.List.{List, _∷_, _++_, append-assoc}
 use Prim.Native.Nat.{ℕ, _+_, _-_, _<_}
 use native.Mathlib.Nat.{add-zero}
 use native.Mathlib.Omega.{arith}
 use lib.ListN.{length, getD, take, drop, length-drop}
-use lib.Seq.{take-append-seam, drop-at, drop-drop, getD-drop}
+use lib.Seq.{take-append-seam, drop-drop, getD-drop}
 use borrow.Author.Tests.{eq-eqb}
-use Rattle.text.specs.declared.Number.{Number}
-use Rattle.text.specs.Digits.{isDigit, leading, digits}
+use Rattle.text.specs.Digits.{isDigit, digits}
 use Rattle.text.proofs.ReadLaws.{leading-none}
 use Rattle.rules.specs.Refusals.{badSize, rasterLength}
 use Rattle.ppm.specs.declared.Header.{Header}
-use Rattle.ppm.specs.P6.{magic, isMagic, isWhite, fieldOf, after, ending, fields, headerOf, headerRefusal, p6Refusal, sizeIn, startIn, header, p6File, writeOut}
+use Rattle.ppm.specs.P6.{magic, isMagic, isWhite, after, ending, fields, headerOf, headerRefusal, p6Refusal, sizeIn, startIn, header, p6File, writeOut}
 use Rattle.ppm.specs.RoundTrip.{RoundTrip}
-use Rattle.ppm.proofs.FieldLaws.{field-written}
+use Rattle.ppm.proofs.FieldLaws.{field-next}
 use Rattle.ppm.proofs.HeaderLaws.{magic-begins}
 use Rattle.ppm.proofs.WriteLaws.{WriteOk, write-ok}
-
--- A field that was written at place `at`, and what follows it.
-field-next : (file : List ℕ) (at b n : ℕ) (l : List ℕ) → drop at file ≡ b ∷ (digits n ++ l) → isWhite b ≡ true → n < 1000000000 → leading isDigit l ≡ 0
-    → let count = 1 + length (digits n) in (fieldOf (drop at file) ≡ Number.Read n count) × (drop (at + count) file ≡ l)
-field-next file at b n l d e k m = (
-  ap fieldOf d ∙ field-written b n l e k m,
-  sym (drop-drop (1 + length (digits n)) at file) ∙ rw d (drop-at (b ∷ digits n) l (1 + length (digits n)) (omega arith)),
-)
 
 written-is : (w h : ℕ) (raster : List ℕ)
     → p6File w h raster ≡ magic ++ (10 ∷ (digits w ++ (32 ∷ (digits h ++ (10 ∷ (digits 255 ++ (10 ∷ raster)))))))
@@ -65,7 +56,7 @@ accepted file w h raster good exact r =
     let e : length file - r .start ≡ rasterLength w h = sym (length-drop (r .start) file) ∙ ap length (r .rest) ∙ exact in
     rw (r .parsed, good, eq-eqb (length file - r .start) (rasterLength w h) e)
 
--- "writing and then reading is still the identity"
+-- Writing a frame and then reading it is the identity.
 pub round-trip : RoundTrip
 unfolding sizeIn startIn
 round-trip w h raster out e = rw (written, none, again .parsed) (refl, again .rest)

@@ -12,7 +12,7 @@ ghost use Rattle.ppm.specs.P6.{isMagic, isWhite, fieldOf, ending, header
 fn is_magic(file: &[u8]) -> bool
     ensures { λ r. ⌜ r ≡ isMagic (now (file .entry)) ⌝ }
 {
-    if file.len() < 2 {
+    if file.len() < MAGIC.len() {
         return false;
     }
     if file[0] != MAGIC[0] {
@@ -83,10 +83,11 @@ pub fn parse(file: &[u8]) -> Header
     if !is_magic(file) {
         return Header::Bad;
     }
-    let Number::Read { value: w, count } = read_field(&file[2..]) else {
+    let at = MAGIC.len();
+    let Number::Read { value: w, count } = read_field(&file[at..]) else {
         return Header::Bad;
     };
-    let at1 = 2 + count;
+    let at1 = at + count;
     let Number::Read { value: h, count } = read_field(&file[at1..]) else {
         return Header::Bad;
     };

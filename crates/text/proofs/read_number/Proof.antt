@@ -1,6 +1,6 @@
-use native.Mathlib.Omega.{arith}
 -- The number of leading digits decides; where there are one to nine, their value is worked out.
 use mathlib.Core.Path.{sym, _∙_}
+use native.Mathlib.Omega.{arith}
 use borrow.Author.Tests.{le-leb, lt-leb}
 use Rattle.text.specs.Digits.{numberOf}
 use borrow.Author.Needs.{needs}
