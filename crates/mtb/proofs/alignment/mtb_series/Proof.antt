@@ -1,0 +1,40 @@
+-- The offered call's own contract; its answer is told as a number.
+use borrow.Author.Needs.{needs}
+use Rattle.mtb.proofs.ToldLaws.{written-told}
+use Rattle.mtb.proofs.alignment.mtb_series.Statement.{statement}
+use Rattle.mtb.proofs.alignment.mtb_series.Tie as tie
+
+series-requires : tie.Need-series-requires
+series-requires c κs = search needs
+
+refusal-in-requires : tie.Need-refusal-in-requires
+refusal-in-requires c κs = search needs
+
+same-length : tie.Need-same-length
+same-length c = search needs
+
+same-length-2 : tie.Need-same-length-2
+same-length-2 c = search needs
+
+same-length-3 : tie.Need-same-length-3
+same-length-3 c = search needs
+
+same-length-4 : tie.Need-same-length-4
+same-length-4 c = search needs
+
+returns : tie.Need-returns
+returns c =
+    let call = c .before .before .before .before .before .before .before .before .series in
+    (written-told _ _ _ (c .refusal-in .ensures) (call .ensures .0), (call .ensures .1 .0, (call .ensures .1 .1 .0, call .ensures .1 .1 .1)))
+
+pub mtb-series-spec : {M : Type 1} → statement M
+mtb-series-spec =
+    tie.close
+    (tie.spec
+    series-requires
+    refusal-in-requires
+    same-length
+    same-length-2
+    same-length-3
+    same-length-4
+    returns)

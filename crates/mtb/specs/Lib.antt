@@ -1,0 +1,2 @@
+-- What the C functions give.
+pub mod Told

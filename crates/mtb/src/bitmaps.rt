@@ -1,0 +1,99 @@
+// Packed bitmaps: packing, shift, counts.
+
+ghost use mathlib.Core.Path.{_≡_};
+ghost use lib.ListN.{length};
+ghost use Rattle.rules.specs.Bitmaps.{bitAt};
+ghost use Rattle.rules.specs.Planes.{total};
+ghost use Rattle.rules.specs.Differences.{difference};
+ghost use Rattle.rules.specs.Refusals.{shiftRefusal, totalRefusal, differenceRefusal};
+ghost use Rattle.rules.specs.Calls.{bitmapsNumber, thresholdsOut, exclusionsOut, shiftOut, planesOf};
+ghost use Rattle.mtb.specs.Told.{told};
+use crate::answers::refusal_in;
+use rules::Counted;
+
+#[no_mangle]
+pub extern "C" fn mtb_bitmaps(
+    w: u32,
+    h: u32,
+    threshold: u8,
+    tolerance: u32,
+    grey: &[u8],
+    thresholds: &mut [u64],
+    exclusions: &mut [u64],
+) -> u32
+    ensures answer { λ n. ⌜ n ≡ bitmapsNumber w h tolerance (now (grey .entry)) (now (thresholds .entry)) (now (exclusions .entry)) ⌝ }
+    ensures thresholds { λ _. ⌜ now (thresholds .exit) ≡ thresholdsOut w h threshold tolerance (now (grey .entry)) (now (thresholds .entry)) (now (exclusions .entry)) ⌝ }
+    ensures exclusions { λ _. ⌜ now (exclusions .exit) ≡ exclusionsOut w h threshold tolerance (now (grey .entry)) (now (thresholds .entry)) (now (exclusions .entry)) ⌝ }
+{
+    refusal_in(pack::bitmaps(
+        w as usize,
+        h as usize,
+        threshold,
+        tolerance,
+        grey,
+        thresholds,
+        exclusions,
+    ))
+}
+
+#[no_mangle]
+pub extern "C" fn mtb_shift(
+    w: u32,
+    h: u32,
+    dx: i32,
+    dy: i32,
+    bitmap: &[u64],
+    out: &mut [u64],
+) -> u32
+    ensures answer { λ n. ⌜ n ≡ shiftRefusal w h (length (now (bitmap .entry))) (length (now (out .entry))) ⌝ }
+    ensures output { λ _. ⌜ now (out .exit) ≡ shiftOut w h dx dy (now (bitmap .entry)) (now (out .entry)) ⌝ }
+{
+    refusal_in(bitmap::shift(w as usize, h as usize, dx, dy, bitmap, out))
+}
+
+#[no_mangle]
+pub extern "C" fn mtb_total(w: u32, h: u32, bitmap: &[u64], count: &mut u32) -> u32
+    ensures answer { λ n. ⌜ n ≡ totalRefusal w h (length (now (bitmap .entry))) ⌝ }
+    ensures count { λ _. ⌜ now (count .exit) ≡ told (totalRefusal w h (length (now (bitmap .entry)))) (total w h (bitAt w h (now (bitmap .entry)))) (now (count .entry)) ⌝ }
+{
+    match count::total(w as usize, h as usize, bitmap) {
+        Counted::Count(ones) => {
+            *count = ones;
+            0
+        }
+        Counted::Refused(n) => n,
+    }
+}
+
+#[no_mangle]
+pub extern "C" fn mtb_difference(
+    w: u32,
+    h: u32,
+    dx: i32,
+    dy: i32,
+    threshold1: &[u64],
+    exclusion1: &[u64],
+    threshold2: &[u64],
+    exclusion2: &[u64],
+    count: &mut u32,
+) -> u32
+    ensures answer { λ n. ⌜ n ≡ differenceRefusal w h (length (now (threshold1 .entry))) (length (now (exclusion1 .entry))) (length (now (threshold2 .entry))) (length (now (exclusion2 .entry))) ⌝ }
+    ensures count { λ _. ⌜ now (count .exit) ≡ told (differenceRefusal w h (length (now (threshold1 .entry))) (length (now (exclusion1 .entry))) (length (now (threshold2 .entry))) (length (now (exclusion2 .entry)))) (difference w h dx dy (planesOf w h (now (threshold1 .entry)) (now (exclusion1 .entry))) (planesOf w h (now (threshold2 .entry)) (now (exclusion2 .entry)))) (now (count .entry)) ⌝ }
+{
+    match count::difference(
+        w as usize,
+        h as usize,
+        dx,
+        dy,
+        threshold1,
+        exclusion1,
+        threshold2,
+        exclusion2,
+    ) {
+        Counted::Count(pixels) => {
+            *count = pixels;
+            0
+        }
+        Counted::Refused(n) => n,
+    }
+}
