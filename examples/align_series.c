@@ -91,8 +91,8 @@ int main(int argc, char **argv)
     }
     int32_t *offsets = lend(2 * series.n, sizeof *offsets);
     align(&series, offsets);
-    printf("%" PRIu32 " frames of %" PRIu32 " by %" PRIu32 ", s = %" PRIu32 ", T = %" PRIu32 ", P = %" PRIu32 "\n",
-           series.n, series.w, series.h, series.s, series.tolerance, series.percentile);
+    printf("%" PRIu32 " by %" PRIu32 " pixels, s = %" PRIu32 ", T = %" PRIu32 ", P = %" PRIu32 ", r = %" PRIu32 "\n",
+           series.w, series.h, series.s, series.tolerance, series.percentile, series.r);
     for (uint32_t k = 0; k < series.n; k++) {
         printf("%5" PRId32 " %5" PRId32 "  %s\n", offsets[2 * k], offsets[2 * k + 1], argv[files + (int)k]);
     }

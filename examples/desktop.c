@@ -28,6 +28,7 @@ static const char *const meanings[] = {
 
 void fail(const char *what, const char *why)
 {
+    fflush(stdout);
     fprintf(stderr, "%s: %s\n", what, why);
     exit(EXIT_FAILURE);
 }
@@ -35,8 +36,9 @@ void fail(const char *what, const char *why)
 void insist(const char *what, uint32_t refusal)
 {
     if (refusal != MTB_ACCEPTED) {
-        fprintf(stderr, "%s: refused (%d): %s\n", what, (int)refusal, meanings[refusal]);
-        exit(EXIT_FAILURE);
+        char why[80];
+        snprintf(why, sizeof why, "refused (%d): %s", (int)refusal, meanings[refusal]);
+        fail(what, why);
     }
 }
 
