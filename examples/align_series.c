@@ -74,14 +74,14 @@ static void print_common_area(const struct series *series, const int32_t *offset
 
 int main(int argc, char **argv)
 {
-    uint32_t settings[] = {NOT_GIVEN, 0, 50, NOT_GIVEN};
-    int files = read_options(argc, argv, "stpr", settings);
+    uint32_t settings[] = {[HALVINGS] = NOT_GIVEN, [TOLERANCE] = 0, [PERCENTILE] = 50, [REFERENCE] = NOT_GIVEN};
+    int files = read_options(argc, argv, 4, settings);
     if (files == 0 || files == argc) {
         fputs("usage: align_series [-s HALVINGS] [-t TOLERANCE] [-p PERCENTILE] [-r REFERENCE] FILE...\n", stderr);
         return 2;
     }
-    struct series series = {
-        .s = settings[0], .tolerance = settings[1], .percentile = settings[2], .r = settings[3], .n = (uint32_t)(argc - files)};
+    struct series series = {.s = settings[HALVINGS], .tolerance = settings[TOLERANCE], .percentile = settings[PERCENTILE],
+                            .n = (uint32_t)(argc - files), .r = settings[REFERENCE]};
     read_frames(&series, argv + files);
     if (series.s == NOT_GIVEN) {
         series.s = fitting_halvings(series.w, series.h);

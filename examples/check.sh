@@ -118,6 +118,13 @@ first-bits.ppm
 over-after.ppm
 over-before.ppm
 second-bits.ppm' ls pictures
+# The difference picture has as many white pixels as differ, and the library reads what it wrote.
+white() { tail -c 65280 "$1" | od -An -v -tu1 -w3 | grep -c '255 255 255'; }
+expect 0 2010 white pictures/difference-before.ppm
+expect 0 '160 by 136 pixels, s = 4, T = 0, P = 50, r = 0
+    0     0  pictures/over-after.ppm
+    0     0  pictures/over-after.ppm
+common area: 160 by 136, columns 0 to 159, rows 0 to 135' align pictures/over-after.ppm pictures/over-after.ppm
 
 usage='usage: pictures [-s HALVINGS] [-t TOLERANCE] [-p PERCENTILE] FIRST SECOND FOLDER'
 expect 2 "$usage" pictures

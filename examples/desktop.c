@@ -44,17 +44,18 @@ void insist(const char *what, uint32_t refusal)
 
 int finish(void)
 {
-    if (fflush(stdout) != 0) {
+    if (fflush(stdout) != 0 || ferror(stdout)) {
         fail("standard output", strerror(errno));
     }
     return EXIT_SUCCESS;
 }
 
-int read_options(int argc, char **argv, const char *letters, uint32_t *settings)
+int read_options(int argc, char **argv, size_t count, uint32_t *settings)
 {
+    static const char letters[] = "stpr";
     int place = 1;
     for (; place < argc && argv[place][0] == '-'; place += 2) {
-        const char *letter = strchr(letters, argv[place][1]), *number = place + 1 < argc ? argv[place + 1] : "";
+        const char *letter = memchr(letters, argv[place][1], count), *number = place + 1 < argc ? argv[place + 1] : "";
         size_t digits = strspn(number, "0123456789");
         if (letter == NULL || strlen(argv[place]) != 2 || digits == 0 || digits > MOST_DIGITS || number[digits] != '\0') {
             return 0;

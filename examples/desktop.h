@@ -5,12 +5,14 @@
 #include <stddef.h>
 #include <stdint.h>
 
+enum setting { HALVINGS, TOLERANCE, PERCENTILE, REFERENCE };    /* options -s, -t, -p, -r */
+
 /* A setting that no option gives: an option's number has nine digits at most. */
 #define NOT_GIVEN UINT32_MAX
 
-/* Reads options such as "-t 4", the number into the setting that stands where its letter does. Gives the place of the first
- * argument that is no option, or 0 when an option's letter is unknown or its number is none. */
-int read_options(int argc, char **argv, const char *letters, uint32_t *settings);
+/* Reads options such as "-t 4" for the first `count` settings. Gives the place of the first argument that is no option, or 0
+ * when an option is unknown or its number is none. */
+int read_options(int argc, char **argv, size_t count, uint32_t *settings);
 
 /* Five halvings, for moves of up to 63 pixels each way, or as many as leave sides of 8 pixels: fewer decide by chance. */
 uint32_t fitting_halvings(uint32_t w, uint32_t h);

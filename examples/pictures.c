@@ -39,14 +39,14 @@ static struct frame read_frame(const char *name, struct size *size)
     return frame;
 }
 
-static void add_bitmaps(struct frame *frame, const struct size *size, uint32_t tolerance, uint32_t percentile)
+static void add_bitmaps(struct frame *frame, const struct size *size, const uint32_t *settings)
 {
     uint8_t *grey = lend(size->pixels, sizeof *grey), threshold;
     frame->thresholds = lend(size->words, sizeof *frame->thresholds);
     frame->exclusions = lend(size->words, sizeof *frame->exclusions);
     insist("grey", mtb_grey(size->w, size->h, frame->raster, size->bytes, grey, size->pixels));
-    insist("threshold", mtb_threshold(size->w, size->h, percentile, grey, size->pixels, &threshold));
-    insist("bitmaps", mtb_bitmaps(size->w, size->h, threshold, tolerance, grey, size->pixels,
+    insist("threshold", mtb_threshold(size->w, size->h, settings[PERCENTILE], grey, size->pixels, &threshold));
+    insist("bitmaps", mtb_bitmaps(size->w, size->h, threshold, settings[TOLERANCE], grey, size->pixels,
                                   frame->thresholds, size->words, frame->exclusions, size->words));
     free(grey);
 }
@@ -63,15 +63,15 @@ struct move {
 };
 
 /* The move that lays the second frame onto the first. */
-static struct move align(const struct frame *first, const struct frame *second, const struct size *size,
-                         uint32_t s, uint32_t tolerance, uint32_t percentile)
+static struct move align(const struct frame *first, const struct frame *second, const struct size *size, const uint32_t *settings)
 {
+    uint32_t s = settings[HALVINGS];
     size_t grey_len = mtb_grey_needed(size->w, size->h, s), words_len = mtb_words_needed(size->w, size->h, s);
     uint8_t *grey = lend(grey_len, sizeof *grey);
     uint64_t *words = lend(words_len, sizeof *words);
     uint32_t counts[MOST_COUNTS];
     struct move move;
-    insist("the pair", mtb_pair(size->w, size->h, s, tolerance, percentile, first->raster, size->bytes,
+    insist("the pair", mtb_pair(size->w, size->h, s, settings[TOLERANCE], settings[PERCENTILE], first->raster, size->bytes,
                                 second->raster, size->bytes, &move.dx, &move.dy, counts, MOST_COUNTS,
                                 grey, grey_len, words, words_len));
     free(grey);
@@ -153,8 +153,8 @@ static void paint_over(const char *folder, const char *name, const struct size *
 
 int main(int argc, char **argv)
 {
-    uint32_t settings[] = {NOT_GIVEN, 0, 50};
-    int files = read_options(argc, argv, "stp", settings);
+    uint32_t settings[] = {[HALVINGS] = NOT_GIVEN, [TOLERANCE] = 0, [PERCENTILE] = 50};
+    int files = read_options(argc, argv, 3, settings);
     if (files == 0 || argc - files != 3) {
         fputs("usage: pictures [-s HALVINGS] [-t TOLERANCE] [-p PERCENTILE] FIRST SECOND FOLDER\n", stderr);
         return 2;
@@ -164,13 +164,15 @@ int main(int argc, char **argv)
     if (size.w != other.w || size.h != other.h) {
         fail(argv[files + 1], "not of the first frame's size");
     }
-    uint32_t s = settings[0] == NOT_GIVEN ? fitting_halvings(size.w, size.h) : settings[0];
-    struct move none = {0, 0}, move = align(&first, &second, &size, s, settings[1], settings[2]);
+    if (settings[HALVINGS] == NOT_GIVEN) {
+        settings[HALVINGS] = fitting_halvings(size.w, size.h);
+    }
+    struct move none = {0, 0}, move = align(&first, &second, &size, settings);
     printf("offset %" PRId32 " %" PRId32 "\n", move.dx, move.dy);
 
     const char *folder = argv[files + 2];
-    add_bitmaps(&first, &size, settings[1], settings[2]);
-    add_bitmaps(&second, &size, settings[1], settings[2]);
+    add_bitmaps(&first, &size, settings);
+    add_bitmaps(&second, &size, settings);
     paint_bits(folder, "first-bits", &size, first.thresholds, first.exclusions);
     paint_bits(folder, "second-bits", &size, second.thresholds, second.exclusions);
     paint_difference(folder, "difference-before", &size, &first, &second, none);
