@@ -1,4 +1,16 @@
-// What the program `bracket` prints, from what it has read.
+// What the program `bracket` prints, from what it has read: the offered call.
+
+pub mod files;
+pub mod parser;
+pub mod writer;
+
+use files::as_read;
+use files::put_files;
+use parser::settings_of;
+ghost use mathlib.Core.Path.{_≡_};
+ghost use lib.ListN.{length};
+ghost use Rattle.rules.specs.Frames.{writtenOver};
+ghost use Rattle.report.specs.Output.{bracketOutput};
 
 // What a settings line says.
 pub enum Settings {
@@ -8,4 +20,36 @@ pub enum Settings {
         percentile: u32,
     },
     Bad,
+}
+
+// All that `bracket` prints, into the beginning of `out`; the answer is the number of bytes.
+pub fn report(
+    input: &[u8],
+    first: &[u8],
+    second: &[u8],
+    grey: &mut [u8; 65536],
+    words: &mut [u64; 8192],
+    out: &mut [u8; 1024],
+) -> usize
+    ensures length { λ r. ⌜ r ≡ length (bracketOutput (now (input .entry)) (now (first .entry)) (now (second .entry))) ⌝ }
+    ensures output { λ _. ⌜ now (out .exit) ≡ writtenOver (bracketOutput (now (input .entry)) (now (first .entry)) (now (second .entry))) (now (out .entry)) ⌝ }
+{
+    let Settings::Given {
+        s,
+        tolerance,
+        percentile,
+    } = settings_of(input)
+    else {
+        return text::put(out, 0, b"settings\n");
+    };
+    put_files(
+        s,
+        tolerance,
+        percentile,
+        as_read(first),
+        as_read(second),
+        grey,
+        words,
+        out,
+    )
 }
