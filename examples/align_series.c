@@ -74,7 +74,7 @@ static void print_common_area(const struct series *series, const int32_t *offset
 
 int main(int argc, char **argv)
 {
-    uint32_t settings[] = {[HALVINGS] = NOT_GIVEN, [TOLERANCE] = 0, [PERCENTILE] = 50, [REFERENCE] = NOT_GIVEN};
+    uint32_t settings[] = {[HALVINGS] = NOT_GIVEN, [TOLERANCE] = 0, [PERCENTILE] = 50, [REFERENCE] = 0};
     int files = read_options(argc, argv, 4, settings);
     if (files == 0 || files == argc) {
         fputs("usage: align_series [-s HALVINGS] [-t TOLERANCE] [-p PERCENTILE] [-r REFERENCE] FILE...\n", stderr);
@@ -85,9 +85,6 @@ int main(int argc, char **argv)
     read_frames(&series, argv + files);
     if (series.s == NOT_GIVEN) {
         series.s = fitting_halvings(series.w, series.h);
-    }
-    if (series.r == NOT_GIVEN) {
-        series.r = (series.n - 1) / 2;
     }
     int32_t *offsets = lend(2 * series.n, sizeof *offsets);
     align(&series, offsets);

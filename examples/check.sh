@@ -1,13 +1,14 @@
 #!/bin/sh
 # Tries the examples on good and bad input and compares all that they print, and their status, with what is expected:
-#     check.sh BUILD
-# where BUILD has the programs, the sanitized ones, and the frames. Ends with the number of trials.
+#     check.sh BUILD SAMPLES
+# where BUILD has the programs and the sanitized ones. Ends with the number of trials.
 set -u
 build=$(cd "$1" && pwd)
+samples=$(cd "$2" && pwd)
 rm -rf "$build/check"
 mkdir -p "$build/check"
 cd "$build/check" || exit 1
-cp "$build"/frames/*.ppm .
+cp "$samples"/*.ppm .
 bin=$build/sanitized
 trials=0
 failures=0
@@ -34,26 +35,26 @@ flat() {
     head -c $((3 * $1 * $2)) /dev/zero >>"$3"
 }
 flat 16 16 flat.ppm
-flat 160 135 lower.ppm
-flat 136 160 upright.ppm
+flat 160 119 lower.ppm
+flat 120 160 upright.ppm
 flat 3 3 tiny.ppm
 flat 5000 1 wide.ppm
 printf 'P5\n1 1\n255\n0' >grey.ppm
 printf 'P6\n1 1\n65535\n000000' >deep.ppm
-head -c 1000 short.ppm >cut.ppm
-(cat short.ppm && printf 0) >longer.ppm
+head -c 1000 first.ppm >cut.ppm
+(cat first.ppm && printf 0) >longer.ppm
 : >empty.ppm
 
-expect 0 '160 by 136 pixels, s = 4, T = 0, P = 50, r = 1
-    7    -5  short.ppm
-    0     0  middle.ppm
-   -9     6  long.ppm
-common area: 144 by 125, columns 7 to 150, rows 6 to 130' align short.ppm middle.ppm long.ppm
-expect 0 '160 by 136 pixels, s = 5, T = 2, P = 50, r = 0
-    0     0  short.ppm
-   -7     5  middle.ppm
-  -16    11  long.ppm
-common area: 144 by 125, columns 0 to 143, rows 11 to 135' align -s 5 -t 2 -p 50 -r 0 short.ppm middle.ppm long.ppm
+expect 0 '160 by 120 pixels, s = 3, T = 0, P = 50, r = 0
+    0     0  first.ppm
+    5    -3  second.ppm
+   -4     6  third.ppm
+common area: 151 by 111, columns 5 to 155, rows 6 to 116' align first.ppm second.ppm third.ppm
+expect 0 '160 by 120 pixels, s = 4, T = 2, P = 83, r = 1
+   -5     3  first.ppm
+    0     0  second.ppm
+   -9     9  third.ppm
+common area: 151 by 111, columns 0 to 150, rows 9 to 119' align -s 4 -t 2 -p 83 -r 1 first.ppm second.ppm third.ppm
 expect 0 '16 by 16 pixels, s = 1, T = 0, P = 50, r = 0
     0     0  flat.ppm
 common area: 16 by 16, columns 0 to 15, rows 0 to 15' align flat.ppm
@@ -72,15 +73,15 @@ expect 2 "$usage" align -s 1234567890 flat.ppm
 
 expect 1 'none.ppm: No such file or directory' align none.ppm
 expect 1 '.: Is a directory' align .
-expect 1 'lower.ppm: not of the first frame'\''s size' align short.ppm lower.ppm
-expect 1 'upright.ppm: not of the first frame'\''s size' align short.ppm upright.ppm
+expect 1 'lower.ppm: not of the first frame'\''s size' align first.ppm lower.ppm
+expect 1 'upright.ppm: not of the first frame'\''s size' align first.ppm upright.ppm
 expect 1 'standard output: No space left on device' sh -c "'$bin/align_series' flat.ppm >/dev/full"
 
 header='refused (1): no P6 header, or its largest value is not 255'
 length='refused (9): the bytes are not as many as the size asks for'
 expect 1 "empty.ppm: $header" align empty.ppm
 expect 1 "grey.ppm: $header" align grey.ppm
-expect 1 "deep.ppm: $header" align short.ppm deep.ppm
+expect 1 "deep.ppm: $header" align first.ppm deep.ppm
 expect 1 'wide.ppm: refused (2): a width or height is 0 or above 4096' align wide.ppm
 expect 1 "cut.ppm: $length" align cut.ppm
 expect 1 "longer.ppm: $length" align longer.ppm
@@ -106,12 +107,12 @@ expect 1 'memory: Cannot allocate memory' sh -c "ulimit -v 60000; '$build/align_
 rm large.ppm
 
 mkdir pictures full
-expect 0 'offset -9 6
-difference-before: 2910 of 21760 pixels
-difference-after: 224 of 21760 pixels' pictures middle.ppm long.ppm pictures
-expect 0 'offset -9 6
-difference-before: 2010 of 21760 pixels
-difference-after: 0 of 21760 pixels' pictures -s 4 -t 4 -p 50 middle.ppm long.ppm pictures
+expect 0 'offset 5 -3
+difference-before: 4803 of 19200 pixels
+difference-after: 186 of 19200 pixels' pictures first.ppm second.ppm pictures
+expect 0 'offset 5 -3
+difference-before: 3543 of 19200 pixels
+difference-after: 0 of 19200 pixels' pictures -s 4 -t 4 -p 50 first.ppm second.ppm pictures
 expect 0 'difference-after.ppm
 difference-before.ppm
 first-bits.ppm
@@ -119,26 +120,26 @@ over-after.ppm
 over-before.ppm
 second-bits.ppm' ls pictures
 # The difference picture has as many white pixels as differ, and the library reads what it wrote.
-white() { tail -c 65280 "$1" | od -An -v -tu1 -w3 | grep -c '255 255 255'; }
-expect 0 2010 white pictures/difference-before.ppm
-expect 0 '160 by 136 pixels, s = 4, T = 0, P = 50, r = 0
+white() { tail -c 57600 "$1" | od -An -v -tu1 -w3 | grep -c '255 255 255'; }
+expect 0 3543 white pictures/difference-before.ppm
+expect 0 '160 by 120 pixels, s = 3, T = 0, P = 50, r = 0
     0     0  pictures/over-after.ppm
     0     0  pictures/over-after.ppm
-common area: 160 by 136, columns 0 to 159, rows 0 to 135' align pictures/over-after.ppm pictures/over-after.ppm
+common area: 160 by 120, columns 0 to 159, rows 0 to 119' align pictures/over-after.ppm pictures/over-after.ppm
 
 usage='usage: pictures [-s HALVINGS] [-t TOLERANCE] [-p PERCENTILE] FIRST SECOND FOLDER'
 expect 2 "$usage" pictures
-expect 2 "$usage" pictures short.ppm long.ppm
-expect 2 "$usage" pictures -r 1 short.ppm long.ppm pictures
-expect 1 "grey.ppm: $header" pictures grey.ppm long.ppm pictures
-expect 1 "cut.ppm: $length" pictures long.ppm cut.ppm pictures
-expect 1 'upright.ppm: not of the first frame'\''s size' pictures short.ppm upright.ppm pictures
-expect 1 'the pair: refused (5): the tolerance is above 64' pictures -t 65 middle.ppm long.ppm pictures
-expect 1 'offset -9 6
-none/first-bits.ppm: No such file or directory' pictures middle.ppm long.ppm none
+expect 2 "$usage" pictures first.ppm second.ppm
+expect 2 "$usage" pictures -r 1 first.ppm second.ppm pictures
+expect 1 "grey.ppm: $header" pictures grey.ppm second.ppm pictures
+expect 1 "cut.ppm: $length" pictures first.ppm cut.ppm pictures
+expect 1 'upright.ppm: not of the first frame'\''s size' pictures first.ppm upright.ppm pictures
+expect 1 'the pair: refused (5): the tolerance is above 64' pictures -t 65 first.ppm second.ppm pictures
+expect 1 'offset 5 -3
+none/first-bits.ppm: No such file or directory' pictures first.ppm second.ppm none
 ln -s /dev/full full/first-bits.ppm
-expect 1 'offset -9 6
-full/first-bits.ppm: No space left on device' pictures middle.ppm long.ppm full
+expect 1 'offset 5 -3
+full/first-bits.ppm: No space left on device' pictures first.ppm second.ppm full
 
 echo "$trials tried, $failures failed"
 [ "$failures" = 0 ]
