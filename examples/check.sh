@@ -35,6 +35,7 @@ flat() {
     head -c $((3 * $1 * $2)) /dev/zero >>"$3"
 }
 flat 16 16 flat.ppm
+flat 200 200 larger.ppm
 flat 160 119 lower.ppm
 flat 120 160 upright.ppm
 flat 3 3 tiny.ppm
@@ -58,6 +59,9 @@ common area: 151 by 111, columns 0 to 150, rows 9 to 119' align -s 4 -t 2 -p 83 
 expect 0 '16 by 16 pixels, s = 1, T = 0, P = 50, r = 0
     0     0  flat.ppm
 common area: 16 by 16, columns 0 to 15, rows 0 to 15' align flat.ppm
+expect 0 '200 by 200 pixels, s = 4, T = 0, P = 50, r = 0
+    0     0  larger.ppm
+common area: 200 by 200, columns 0 to 199, rows 0 to 199' align larger.ppm
 
 usage='usage: align_series [-s HALVINGS] [-t TOLERANCE] [-p PERCENTILE] [-r REFERENCE] FILE...'
 expect 2 "$usage" align
