@@ -1,8 +1,9 @@
 #!/usr/bin/env python3
-"""Writes first.ppm and second.ppm beside this file: two exposures of a cratered ground in slanting light.
+"""Writes first.ppm, second.ppm and third.ppm beside this file: three exposures of a cratered ground in slanting light.
 
-The second one is exposed longer (another tone curve, noise of its own), and the camera has slid between the two:
-moving the second frame right by 5 and up by 3 puts it onto the first. So `bracket` should print `offset 5 -3`.
+Each is exposed longer than the one before (another tone curve, noise of its own), and the camera has slid in between:
+moving the second frame right by 5 and up by 3 puts it onto the first, so `bracket` should print `offset 5 -3`; moving the
+third one left by 4 and down by 6 does.
 The seed is fixed: every run writes the same bytes.
 """
 import math
@@ -11,6 +12,7 @@ import random
 
 WIDTH, HEIGHT = 160, 120
 MOVE = (5, -3)  # moves the second frame onto the first
+THIRD_MOVE = (-4, 6)  # moves the third one there
 MARGIN = 8  # ground beyond the frame on each side, so that both frames see ground everywhere
 CRATERS = 70
 NOISE = 2.0  # standard deviation, in grey steps
@@ -85,3 +87,4 @@ def write(name, raster):
 light = lit(*ground())
 write("first.ppm", exposed(light, MARGIN, MARGIN, 0.7, 1.0))
 write("second.ppm", exposed(light, MARGIN + MOVE[0], MARGIN + MOVE[1], 1.1, 0.6))
+write("third.ppm", exposed(light, MARGIN + THIRD_MOVE[0], MARGIN + THIRD_MOVE[1], 1.7, 0.5))

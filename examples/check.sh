@@ -1,0 +1,149 @@
+#!/bin/sh
+# Tries the examples on good and bad input and compares all that they print, and their status, with what is expected:
+#     check.sh BUILD SAMPLES
+# where BUILD has the programs and the sanitized ones. Ends with the number of trials.
+set -u
+build=$(cd "$1" && pwd)
+samples=$(cd "$2" && pwd)
+rm -rf "$build/check"
+mkdir -p "$build/check"
+cd "$build/check" || exit 1
+cp "$samples"/*.ppm .
+bin=$build/sanitized
+trials=0
+failures=0
+
+# expect STATUS TEXT COMMAND...
+expect() {
+    status=$1 text=$2
+    shift 2
+    printed=$("$@" 2>&1)
+    got=$?
+    trials=$((trials + 1))
+    if [ "$got" != "$status" ] || [ "$printed" != "$text" ]; then
+        failures=$((failures + 1))
+        printf 'FAILED: %s\nexpected (%s): %s\ngot (%s): %s\n' "$*" "$status" "$text" "$got" "$printed"
+    fi
+}
+
+align() { "$bin/align_series" "$@"; }
+pictures() { "$bin/pictures" "$@"; }
+
+# A flat frame: flat W H FILE
+flat() {
+    printf 'P6\n%d %d\n255\n' "$1" "$2" >"$3"
+    head -c $((3 * $1 * $2)) /dev/zero >>"$3"
+}
+flat 16 16 flat.ppm
+flat 200 200 larger.ppm
+flat 160 119 lower.ppm
+flat 120 160 upright.ppm
+flat 3 3 tiny.ppm
+flat 5000 1 wide.ppm
+printf 'P5\n1 1\n255\n0' >grey.ppm
+printf 'P6\n1 1\n65535\n000000' >deep.ppm
+head -c 1000 first.ppm >cut.ppm
+(cat first.ppm && printf 0) >longer.ppm
+: >empty.ppm
+
+expect 0 '160 by 120 pixels, s = 3, T = 0, P = 50, r = 0
+    0     0  first.ppm
+    5    -3  second.ppm
+   -4     6  third.ppm
+common area: 151 by 111, columns 5 to 155, rows 6 to 116' align first.ppm second.ppm third.ppm
+expect 0 '160 by 120 pixels, s = 4, T = 2, P = 83, r = 1
+   -5     3  first.ppm
+    0     0  second.ppm
+   -9     9  third.ppm
+common area: 151 by 111, columns 0 to 150, rows 9 to 119' align -s 4 -t 2 -p 83 -r 1 first.ppm second.ppm third.ppm
+expect 0 '16 by 16 pixels, s = 1, T = 0, P = 50, r = 0
+    0     0  flat.ppm
+common area: 16 by 16, columns 0 to 15, rows 0 to 15' align flat.ppm
+expect 0 '200 by 200 pixels, s = 4, T = 0, P = 50, r = 0
+    0     0  larger.ppm
+common area: 200 by 200, columns 0 to 199, rows 0 to 199' align larger.ppm
+
+usage='usage: align_series [-s HALVINGS] [-t TOLERANCE] [-p PERCENTILE] [-r REFERENCE] FILE...'
+expect 2 "$usage" align
+expect 2 "$usage" align -s 1
+expect 2 "$usage" align -s
+expect 2 "$usage" align - flat.ppm
+expect 2 "$usage" align -x 1 flat.ppm
+expect 2 "$usage" align -st 1 flat.ppm
+expect 2 "$usage" align -s '' flat.ppm
+expect 2 "$usage" align -s -1 flat.ppm
+expect 2 "$usage" align -s 1x flat.ppm
+expect 2 "$usage" align -s 1234567890 flat.ppm
+
+expect 1 'none.ppm: No such file or directory' align none.ppm
+expect 1 '.: Is a directory' align .
+expect 1 'lower.ppm: not of the first frame'\''s size' align first.ppm lower.ppm
+expect 1 'upright.ppm: not of the first frame'\''s size' align first.ppm upright.ppm
+expect 1 'standard output: No space left on device' sh -c "'$bin/align_series' flat.ppm >/dev/full"
+
+header='refused (1): no P6 header, or its largest value is not 255'
+length='refused (9): the bytes are not as many as the size asks for'
+expect 1 "empty.ppm: $header" align empty.ppm
+expect 1 "grey.ppm: $header" align grey.ppm
+expect 1 "deep.ppm: $header" align first.ppm deep.ppm
+expect 1 'wide.ppm: refused (2): a width or height is 0 or above 4096' align wide.ppm
+expect 1 "cut.ppm: $length" align cut.ppm
+expect 1 "longer.ppm: $length" align longer.ppm
+expect 1 'the series: refused (3): there are more than 8 halvings' align -s 999999999 flat.ppm
+expect 1 'the series: refused (4): a side is too short for this many halvings' align -s 3 flat.ppm
+expect 1 'the series: refused (4): a side is too short for this many halvings' align tiny.ppm
+expect 1 'the series: refused (5): the tolerance is above 64' align -t 65 flat.ppm
+set -- flat.ppm flat.ppm flat.ppm flat.ppm
+expect 1 'the series: refused (6): there are more than 16 frames' align "$@" "$@" "$@" "$@" flat.ppm
+expect 1 'the series: refused (7): the reference is none of the frames' align -r 4 "$@"
+expect 1 'the series: refused (8): the percentile is not 17, 50 or 83' align -p 51 "$@"
+# Ward's order gives flat frames the corner: far enough off in a series that nothing is left in common.
+expect 1 '16 by 16 pixels, s = 2, T = 0, P = 50, r = 0
+    0     0  flat.ppm
+   -7    -7  flat.ppm
+  -14   -14  flat.ppm
+  -21   -21  flat.ppm
+the common area: refused (13): the frames show no area in common' align -s 2 -r 0 "$@"
+
+# Memory runs out; not under the sanitizers, which need much of it themselves.
+flat 4096 4096 large.ppm
+expect 1 'memory: Cannot allocate memory' sh -c "ulimit -v 60000; '$build/align_series' large.ppm"
+rm large.ppm
+
+mkdir pictures full
+expect 0 'offset 5 -3
+difference-before: 4803 of 19200 pixels
+difference-after: 186 of 19200 pixels' pictures first.ppm second.ppm pictures
+expect 0 'offset 5 -3
+difference-before: 3543 of 19200 pixels
+difference-after: 0 of 19200 pixels' pictures -s 4 -t 4 -p 50 first.ppm second.ppm pictures
+expect 0 'difference-after.ppm
+difference-before.ppm
+first-bits.ppm
+over-after.ppm
+over-before.ppm
+second-bits.ppm' ls pictures
+# The difference picture has as many white pixels as differ, and the library reads what it wrote.
+white() { tail -c 57600 "$1" | od -An -v -tu1 -w3 | grep -c '255 255 255'; }
+expect 0 3543 white pictures/difference-before.ppm
+expect 0 '160 by 120 pixels, s = 3, T = 0, P = 50, r = 0
+    0     0  pictures/over-after.ppm
+    0     0  pictures/over-after.ppm
+common area: 160 by 120, columns 0 to 159, rows 0 to 119' align pictures/over-after.ppm pictures/over-after.ppm
+
+usage='usage: pictures [-s HALVINGS] [-t TOLERANCE] [-p PERCENTILE] FIRST SECOND FOLDER'
+expect 2 "$usage" pictures
+expect 2 "$usage" pictures first.ppm second.ppm
+expect 2 "$usage" pictures -r 1 first.ppm second.ppm pictures
+expect 1 "grey.ppm: $header" pictures grey.ppm second.ppm pictures
+expect 1 "cut.ppm: $length" pictures first.ppm cut.ppm pictures
+expect 1 'upright.ppm: not of the first frame'\''s size' pictures first.ppm upright.ppm pictures
+expect 1 'the pair: refused (5): the tolerance is above 64' pictures -t 65 first.ppm second.ppm pictures
+expect 1 'offset 5 -3
+none/first-bits.ppm: No such file or directory' pictures first.ppm second.ppm none
+ln -s /dev/full full/first-bits.ppm
+expect 1 'offset 5 -3
+full/first-bits.ppm: No space left on device' pictures first.ppm second.ppm full
+
+echo "$trials tried, $failures failed"
+[ "$failures" = 0 ]
