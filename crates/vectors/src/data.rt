@@ -1,0 +1,146 @@
+// Numbers and parts of a data file (tests/FORMAT.md). Nothing here requires anything: past the end a
+// number is 0, and a part that does not fit is empty.
+
+pub const RECORD_BYTES: usize = 128;
+
+// Numbers of a record.
+pub const CALL: usize = 0;
+
+pub const REFUSAL: usize = 1;
+
+pub const WIDTH: usize = 2;
+
+pub const HEIGHT: usize = 3;
+
+pub const HALVINGS: usize = 4;
+
+pub const TOLERANCE: usize = 5;
+
+pub const PERCENTILE: usize = 6;
+
+pub const FRAMES: usize = 7;
+
+pub const REFERENCE: usize = 8;
+
+pub const MOVE_X: usize = 9;
+
+pub const MOVE_Y: usize = 10;
+
+// Inputs and outputs: each takes two numbers from here on.
+pub const INPUT1: usize = 11;
+
+pub const INPUT2: usize = 13;
+
+pub const INPUT3: usize = 15;
+
+pub const INPUT4: usize = 17;
+
+pub const OUTPUT1: usize = 19;
+
+pub const OUTPUT2: usize = 21;
+
+pub const GREY: usize = 23;
+
+pub const WORDS: usize = 25;
+
+// Expected values: four.
+pub const VALUE1: usize = 27;
+
+pub const VALUE2: usize = 28;
+
+pub const VALUE3: usize = 29;
+
+pub const VALUE4: usize = 30;
+
+pub const SCENE: usize = 31;
+
+const FIELDS: usize = 32;
+
+fn byte_at(bytes: &[u8], at: usize) -> u8 {
+    if at < bytes.len() { bytes[at] } else { 0 }
+}
+
+// The 32-bit number at a place.
+pub fn number_at(bytes: &[u8], at: usize) -> u32 {
+    if bytes.len() <= at {
+        return 0;
+    }
+    if bytes.len() - at < 4 {
+        return 0;
+    }
+    let low = byte_at(bytes, at) as u32 + 256 * (byte_at(bytes, at + 1) as u32);
+    let high = byte_at(bytes, at + 2) as u32 + 256 * (byte_at(bytes, at + 3) as u32);
+    low + 65536 * high
+}
+
+// The 64-bit number at a place.
+pub fn word_at(bytes: &[u8], at: usize) -> u64 {
+    if bytes.len() <= at {
+        return 0;
+    }
+    if bytes.len() - at < 8 {
+        return 0;
+    }
+    number_at(bytes, at) as u64 + 4294967296 * (number_at(bytes, at + 4) as u64)
+}
+
+// Number i of the 32-bit numbers that the bytes are.
+pub fn number_of(bytes: &[u8], i: usize) -> u32 {
+    if bytes.len() / 4 <= i {
+        return 0;
+    }
+    number_at(bytes, 4 * i)
+}
+
+// Number i of the 64-bit numbers that the bytes are.
+pub fn word_of(bytes: &[u8], i: usize) -> u64 {
+    if bytes.len() / 8 <= i {
+        return 0;
+    }
+    word_at(bytes, 8 * i)
+}
+
+// The signed number of these 32 bits.
+pub fn signed(bits: u32) -> i32 {
+    if bits < 2147483648 {
+        bits as i32
+    } else {
+        !((4294967295 - bits) as i32)
+    }
+}
+
+// The bytes from a place on.
+pub fn part(bytes: &[u8], from: usize, length: usize) -> &[u8] {
+    if from <= bytes.len() {
+        if length <= bytes.len() - from {
+            let end = from + length;
+            return &bytes[from..end];
+        }
+    }
+    &bytes[0..0]
+}
+
+// A number of a record.
+pub fn field(record: &[u8], k: usize) -> u32 {
+    if FIELDS <= k {
+        return 0;
+    }
+    number_at(record, 4 * k)
+}
+
+pub fn size(record: &[u8], k: usize) -> usize {
+    field(record, k) as usize
+}
+
+// The second number of an input or output.
+pub fn second_size(record: &[u8], k: usize) -> usize {
+    if FIELDS <= k {
+        return 0;
+    }
+    size(record, k + 1)
+}
+
+// An input of bytes: place in the pool, and length.
+pub fn input<'a>(record: &[u8], pool: &'a [u8], k: usize) -> &'a [u8] {
+    part(pool, size(record, k), second_size(record, k))
+}
