@@ -82,7 +82,7 @@ static uint64_t *lent_words(size_t count)
 {
     uint64_t *words = memory(8 * count);
     for (size_t i = 0; i < count; i++)
-        words[i] = 0xA5A5A5A500000000u + i % 65536;
+        words[i] = 0xA5A5A5A5A5A5A5A5u;
     return words;
 }
 
@@ -90,7 +90,7 @@ static uint32_t *lent_counts(size_t count)
 {
     uint32_t *counts = memory(4 * count);
     for (size_t i = 0; i < count; i++)
-        counts[i] = 0xC3C30000u + (uint32_t)(i % 65536);
+        counts[i] = 0xC3C3C3C3u;
     return counts;
 }
 

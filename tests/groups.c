@@ -14,15 +14,18 @@ void must(bool holds, const char *what)
     }
 }
 
-void make_noise(uint64_t seed, const char *name)
+void make_noise(uint64_t seed)
 {
-    random_begin(seed, name);
+    random_begin(seed, "noise");
     random_bytes(noise, sizeof noise);
     random_bytes(ties, sizeof ties);
     for (int i = 0; i < NOISE_BYTES; i++)
         ties[i] %= 4;
     for (int i = 0; i < NOISE_WORDS; i++)
         noise_words[i] = random_bits();
+    keep_bytes(noise, sizeof noise);
+    keep_bytes(ties, sizeof ties);
+    keep_bytes(noise_words, sizeof noise_words);
 }
 
 uint32_t one_of(const uint32_t *numbers, int count)

@@ -7,22 +7,22 @@
 
 #define COUNT_OF(array) ((int)(sizeof(array) / sizeof((array)[0])))
 
-/* Files: each begins and ends its own, in the directory. */
-void frame_file(uint64_t seed, const char *directory);
-void bitmap_file(uint64_t seed, const char *directory);
-void pair_file(uint64_t seed, const char *directory);
-void series_file(uint64_t seed, const char *directory);
-void made_file(const char *directory);
-void example_file(const char *directory);
-void p6_file(uint64_t seed, const char *directory);
-void view_file(uint64_t seed, const char *directory);
-void bracket_file(uint64_t seed, const char *directory);
+/* Each adds its groups to the file in the making. */
+void example_groups(void);
+void frame_groups(uint64_t seed);
+void bitmap_groups(uint64_t seed);
+void pair_groups(uint64_t seed);
+void series_groups(uint64_t seed);
+void made_groups(void);
+void p6_groups(uint64_t seed);
+void view_groups(uint64_t seed);
+void bracket_groups(uint64_t seed);
 
 /* Random inputs that many records share: any bytes, bytes below 4 (many ties), words. */
 enum { NOISE_BYTES = 16384, NOISE_WORDS = 1024 };
 extern uint8_t noise[NOISE_BYTES], ties[NOISE_BYTES];
 extern uint64_t noise_words[NOISE_WORDS];
-void make_noise(uint64_t seed, const char *name);
+void make_noise(uint64_t seed);
 
 /* A way to make a refusal number apply: to sizes and settings, or, after these have given the lengths, to slices. */
 struct breaker {

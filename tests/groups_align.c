@@ -180,17 +180,14 @@ static void pair_re_exposed(void)
         }
 }
 
-void pair_file(uint64_t seed, const char *directory)
+void pair_groups(uint64_t seed)
 {
-    begin_file();
-    make_noise(seed, "pairs");
-    keep_bytes(noise, 1000);
+    random_begin(seed, "pairs");
     pair_sizes();
     pair_settings();
     pair_lengths();
     pair_refusals();
     pair_re_exposed();
-    end_file(directory, "pairs.bin");
 }
 
 /* ---- Series ---- */
@@ -299,15 +296,12 @@ static void series_re_exposed(void)
         }
 }
 
-void series_file(uint64_t seed, const char *directory)
+void series_groups(uint64_t seed)
 {
-    begin_file();
-    make_noise(seed, "series");
-    keep_bytes(noise, 4000);
+    random_begin(seed, "series");
     series_frames();
     series_refusals();
     series_re_exposed();
-    end_file(directory, "series.bin");
 }
 
 /* ---- Made frames ---- */
@@ -374,12 +368,10 @@ static void made_series(void)
     add_made_series(513, 512, 7, 3, 2, 0);
 }
 
-void made_file(const char *directory)
+void made_groups(void)
 {
-    begin_file();
     made_pairs();
     made_series();
-    end_file(directory, "made.bin");
 }
 
 /* ---- Document 01's worked examples ---- */
@@ -436,10 +428,8 @@ static void shift_example(int32_t dx, int32_t dy)
     add(&v);
 }
 
-void example_file(const char *directory)
+void example_groups(void)
 {
-    begin_file();
-    make_noise(0, "examples");
     begin_group("document 01: worked examples that are not proved");
     flat_example();
     expect_pair(16, 16, 0, 0);
@@ -458,5 +448,4 @@ void example_file(const char *directory)
     shift_example(INT32_MIN, 0);
     shift_example(0, INT32_MIN);
     shift_example(0, 3);
-    end_file(directory, "examples.bin");
 }

@@ -137,18 +137,15 @@ static void write_groups(void)
     add_subsets(write_vector(12, 5), breakers, COUNT_OF(breakers), 8);
 }
 
-void p6_file(uint64_t seed, const char *directory)
+void p6_groups(uint64_t seed)
 {
-    begin_file();
-    make_noise(seed, "p6");
-    keep_bytes(noise, 12700);
+    random_begin(seed, "p6");
     good_headers();
     every_white();
     bad_headers();
     bad_sizes();
     cut_files();
     write_groups();
-    end_file(directory, "p6.bin");
 }
 
 /* ---- Common area ---- */
@@ -277,17 +274,14 @@ static void blink_groups(void)
     add_subsets(blink_vector(6, 5, 4, true), breakers, COUNT_OF(breakers), 6);
 }
 
-void view_file(uint64_t seed, const char *directory)
+void view_groups(uint64_t seed)
 {
-    begin_file();
-    make_noise(seed, "views");
-    keep_bytes(noise, 2000);
+    random_begin(seed, "views");
     area_sizes();
     area_edges();
     area_refusals();
     moved_groups();
     blink_groups();
-    end_file(directory, "views.bin");
 }
 
 /* ---- The program `bracket` ---- */
@@ -429,12 +423,11 @@ static void file_limits(void)
 }
 
 /* Scenes with detail, as files. */
-static void alignments(uint64_t seed)
+static void alignments(void)
 {
     static uint8_t raster[3 * 70 * 40];
     static const uint32_t sides[][2] = { { 32, 33 }, { 40, 32 }, { 66, 34 } };
     begin_group("bracket: alignments");
-    random_begin(seed, "alignments");
     for (int i = 0; i < COUNT_OF(sides); i++) {
         uint32_t w = sides[i][0], h = sides[i][1];
         char header[32];
@@ -453,13 +446,11 @@ static void alignments(uint64_t seed)
     }
 }
 
-void bracket_file(uint64_t seed, const char *directory)
+void bracket_groups(uint64_t seed)
 {
-    begin_file();
-    make_noise(seed, "bracket");
+    random_begin(seed, "bracket");
     settings_lines();
     file_numbers();
     file_limits();
-    alignments(seed);
-    end_file(directory, "bracket.bin");
+    alignments();
 }

@@ -139,16 +139,12 @@ static void threshold_groups(void)
     add_subsets(threshold_vector(7, 5, 83, noise), breakers, COUNT_OF(breakers), 10);
 }
 
-void frame_file(uint64_t seed, const char *directory)
+void frame_groups(uint64_t seed)
 {
-    begin_file();
-    make_noise(seed, "frames");
-    keep_bytes(noise, NOISE_BYTES);
-    keep_bytes(ties, NOISE_BYTES / 2);
+    random_begin(seed, "frames");
     grey_groups();
     halve_groups();
     threshold_groups();
-    end_file(directory, "frames.bin");
 }
 
 /* ---- Bitmaps ---- */
@@ -161,7 +157,7 @@ static struct vector bitmaps_vector(uint32_t w, uint32_t h, uint32_t threshold, 
     return v;
 }
 
-static void bitmaps_groups(void)
+static void pack_groups(void)
 {
     static const uint32_t levels[][2] = { { 0, 0 },  { 255, 0 },  { 128, 0 },  { 128, 1 }, { 128, 64 },
                                           { 10, 64 }, { 250, 64 }, { 191, 63 }, { 2, 1 } };
@@ -266,16 +262,11 @@ static void difference_groups(void)
     add_subsets(difference_vector(67, 3, 2, 1), breakers, COUNT_OF(breakers), 16);
 }
 
-void bitmap_file(uint64_t seed, const char *directory)
+void bitmap_groups(uint64_t seed)
 {
-    begin_file();
-    make_noise(seed, "bitmaps");
-    keep_bytes(noise_words, sizeof noise_words);
-    keep_bytes(noise, 2000);
-    keep_bytes(ties, 2000);
-    bitmaps_groups();
+    random_begin(seed, "bitmaps");
+    pack_groups();
     shift_groups();
     total_groups();
     difference_groups();
-    end_file(directory, "bitmaps.bin");
 }

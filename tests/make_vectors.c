@@ -13,14 +13,19 @@ int main(int argc, char **argv)
         return EXIT_FAILURE;
     }
     uint64_t seed = argc == 3 ? strtoull(argv[2], NULL, 10) : DEFAULT_SEED;
-    frame_file(seed, argv[1]);
-    bitmap_file(seed, argv[1]);
-    pair_file(seed, argv[1]);
-    series_file(seed, argv[1]);
-    made_file(argv[1]);
-    example_file(argv[1]);
-    p6_file(seed, argv[1]);
-    view_file(seed, argv[1]);
-    bracket_file(seed, argv[1]);
+    begin_file();
+    make_noise(seed);
+    example_groups();
+    frame_groups(seed);
+    bitmap_groups(seed);
+    pair_groups(seed);
+    series_groups(seed);
+    p6_groups(seed);
+    view_groups(seed);
+    bracket_groups(seed);
+    end_file(argv[1], "stored.bin");
+    begin_file();
+    made_groups();
+    end_file(argv[1], "made.bin");
     return EXIT_SUCCESS;
 }

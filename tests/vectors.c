@@ -6,7 +6,7 @@
 #include <stdlib.h>
 #include <string.h>
 
-enum { MAX_GROUPS = 32, MAX_RECORDS = 8192, MAX_POOL = 4000000, HEADER = 20, GROUP = 16, FULL_BYTES = 256 };
+enum { MAX_GROUPS = 64, MAX_RECORDS = 8192, MAX_POOL = 4000000, HEADER = 20, GROUP = 16, FULL_BYTES = 256 };
 
 struct group {
     uint32_t name, name_length, first, count;
@@ -83,7 +83,7 @@ static uint32_t keep_lent_words(size_t count)
 {
     uint8_t *bytes = malloc(8 * count + 1);
     for (size_t i = 0; i < count; i++)
-        put_number(bytes + 8 * i, 0xA5A5A5A500000000u + i % 65536, 8);
+        put_number(bytes + 8 * i, 0xA5A5A5A5A5A5A5A5u, 8);
     uint32_t at = keep_contents(bytes, 8 * count, false);
     free(bytes);
     return at;
@@ -228,5 +228,5 @@ void end_file(const char *directory, const char *name)
     fwrite(pool, 1, pool_length, file);
     if (fclose(file) != 0)
         fail(path);
-    printf("%-14s %2u groups %5u records %8u bytes\n", name, group_count, record_count, header[3]);
+    printf("%-10s %2u groups %5u records %8u bytes\n", name, group_count, record_count, header[3]);
 }
