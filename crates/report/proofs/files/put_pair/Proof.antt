@@ -1,0 +1,84 @@
+-- The pair call's answer decides; the counts that it wrote stand at the beginning of their buffer.
+use mathlib.Core.Path.{_≡_, sym, _∙_}
+use native.Mathlib.Omega.{arith}
+use lib.ListN.{length}
+use borrow.Author.Needs.{needs}
+use Rattle.rules.specs.declared.Paired.{Paired}
+use Rattle.rules.specs.Answers.{paired}
+use Rattle.report.proofs.OutputLaws.{number, result, halvings, pair-refused-text, pair-moved-text}
+use Rattle.report.proofs.files.put_pair.Statement.{statement}
+use Rattle.report.proofs.files.put_pair.Tie as tie
+
+abbrev start : tie.After-pair → tie.Start
+start c = c .before .before .before .before .before .before
+
+-- the lengths of the lent arrays
+grey-length : (c : tie.After-pair) → length (start c .args .grey .now) ≡ 65536
+grey-length c = c .before .before .pair-arg .given .0 .1
+
+words-length : (c : tie.After-pair) → length (start c .args .words .now) ≡ 8192
+words-length c = c .before .pair-arg2 .given .0 .1
+
+answered : (c : tie.After-pair) → (let a = start c .args in
+    paired (number (a .size) (a .s) (a .tolerance) (a .percentile) (a .first .now) (a .second .now)) (result (a .size) (a .s) (a .tolerance) (a .percentile) (a .first .now) (a .second .now) .offset) ≡ c .pair .result)
+answered c = sym (rw (grey-length c, words-length c) at (c .pair .ensures .0))
+
+-- the answer of an accepted pair
+moved : (c : tie.After-answer2) → (let a = start (c .before .before .before) .args in
+    paired (number (a .size) (a .s) (a .tolerance) (a .percentile) (a .first .now) (a .second .now)) (result (a .size) (a .s) (a .tolerance) (a .percentile) (a .first .now) (a .second .now) .offset) ≡ Paired.Moved (c .answer2 .given .0 .0))
+moved c = answered (c .before .before .before) ∙ c .answer2 .given .1
+
+slice-aggregate-pair : tie.Need-slice-aggregate-pair
+slice-aggregate-pair c = search needs
+
+pair-requires : tie.Need-pair-requires
+pair-requires c κs = search needs
+
+enum-known-answer : tie.Need-enum-known-answer
+enum-known-answer c = search needs
+
+put-refused-requires : tie.Need-put-refused-requires
+put-refused-requires c κs = search needs
+
+enum-known-answer-2 : tie.Need-enum-known-answer-2
+enum-known-answer-2 c = search needs
+
+slice-aggregate-put-aligned : tie.Need-slice-aggregate-put-aligned
+slice-aggregate-put-aligned c = search needs
+
+put-aligned-requires : tie.Need-put-aligned-requires
+put-aligned-requires c κs =
+    let b = c .before .before .before in
+    let a = start (b .before .before .before) .args in
+    let h = halvings (a .size) (a .s) (a .tolerance) (a .percentile) (a .first .now) (a .second .now) _ (moved b) in
+    (h, (omega arith, search needs))
+
+returns : tie.Need-returns
+returns c =
+    let b = c .before .before .before .before .before .before in
+    let a = start b .args in
+    rw (pair-refused-text (a .size) (a .s) (a .tolerance) (a .percentile) (a .first .now) (a .second .now) _ (answered b ∙ c .before .before .before .answer .given .1))
+    (c .put-refused .ensures)
+
+returns-2 : tie.Need-returns-2
+returns-2 c =
+    let b = c .before .before .before .before in
+    let p = b .before .before .before in
+    let a = start p .args in
+    let d = rw (grey-length p, words-length p) at (p .pair .ensures .1 .0) in
+    rw (pair-moved-text (a .size) (a .s) (a .tolerance) (a .percentile) (a .first .now) (a .second .now) _ (moved b) _ _ d)
+    (c .put-aligned .ensures)
+
+pub put-pair-spec : {M : Type 1} → statement M
+put-pair-spec =
+    tie.close
+    (tie.spec
+    slice-aggregate-pair
+    pair-requires
+    enum-known-answer
+    put-refused-requires
+    enum-known-answer-2
+    slice-aggregate-put-aligned
+    put-aligned-requires
+    returns
+    returns-2)

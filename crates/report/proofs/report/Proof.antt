@@ -1,0 +1,64 @@
+-- The settings line decides; what is put at the beginning of the buffer is the whole output.
+use mathlib.Core.Path.{sym, _∙_}
+use borrow.Author.Needs.{needs}
+use Rattle.report.proofs.OutputLaws.{bad-line, good-line}
+use Rattle.report.proofs.WriteLaws.{wrote-one, wrote-all}
+use Rattle.report.proofs.report.Statement.{statement}
+use Rattle.report.proofs.report.Tie as tie
+
+settings-of-requires : tie.Need-settings-of-requires
+settings-of-requires c κs = search needs
+
+enum-known-s : tie.Need-enum-known-s
+enum-known-s c = search needs
+
+enum-told : tie.Need-enum-told
+enum-told c = search needs
+
+slice-aggregate-put : tie.Need-slice-aggregate-put
+slice-aggregate-put c = search needs
+
+put-requires : tie.Need-put-requires
+put-requires c κs = search needs
+
+returns : tie.Need-returns
+returns c =
+    let b = c .before .before .before in
+    let l = b .before .before in
+    let a = l .before .before .before .before .args in
+    rw (bad-line (a .input .now) (a .first .now) (a .second .now) (sym (l .settings-of .ensures) ∙ b .enum-told .given .1))
+    (wrote-all _ _ _ _ (wrote-one _ _ _ _ _ (c .put .ensures)))
+
+as-read-requires : tie.Need-as-read-requires
+as-read-requires c κs = search needs
+
+as-read-requires-2 : tie.Need-as-read-requires-2
+as-read-requires-2 c κs = search needs
+
+put-files-requires : tie.Need-put-files-requires
+put-files-requires c κs = search needs
+
+returns-2 : tie.Need-returns-2
+returns-2 c =
+    let two = c .before .before .before .before in
+    let one = two .before in
+    let b = one .before .before in
+    let l = b .before .before in
+    let a = l .before .before .before .before .args in
+    rw (good-line (a .input .now) (a .first .now) (a .second .now) _ _ _ (sym (l .settings-of .ensures) ∙ b .s .given .1))
+    (wrote-all _ _ _ _ (rw (one .as-read .ensures, two .as-read2 .ensures) at (c .put-files .ensures)))
+
+pub report-spec : {M : Type 1} → statement M
+report-spec =
+    tie.close
+    (tie.spec
+    settings-of-requires
+    enum-known-s
+    enum-told
+    slice-aggregate-put
+    put-requires
+    returns
+    as-read-requires
+    as-read-requires-2
+    put-files-requires
+    returns-2)

@@ -1,0 +1,20 @@
+-- The text for a pair of rasters, as `bracket` hands them to the pair call.
+use mathlib.Core.Bool.{_&&_, cond}
+use mathlib.Core.List.{List, []}
+use Prim.Native.Nat.{ℕ}
+use lib.Dec.{eqb}
+use lib.ListN.{length}
+use Rattle.rules.specs.Refusals.{pairRefusal}
+use Rattle.rules.specs.Calls.{pairResult}
+use Rattle.ppm.specs.declared.Size.{Size}
+use Rattle.ppm.specs.P6.{rasterOf}
+use Rattle.report.specs.Output.{alignedText, countsLent, greyLent, wordsLent, answerText}
+
+unfoldable pub pairText : Size → ℕ → ℕ → ℕ → List ℕ → List ℕ → List ℕ
+pairText size s tolerance percentile first second =
+    answerText (pairRefusal (size .w) (size .h) s tolerance percentile (length first) (length second) countsLent greyLent wordsLent)
+    (alignedText s (pairResult (size .w) (size .h) s tolerance percentile first second))
+
+-- the second file's raster, if its frame has the first one's size
+unfoldable pub rasterOfSize : Size → Size → List ℕ → List ℕ
+rasterOfSize first second file = cond (eqb (first .w) (second .w) && eqb (first .h) (second .h)) (rasterOf file) []
