@@ -1,2 +1,3 @@
--- The moved frame.
+-- The moved frame, and what its rows are written from.
 pub mod Moved
+pub mod Spans

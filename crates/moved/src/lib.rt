@@ -1,1 +1,40 @@
 // The moved frame: the offered call.
+
+ghost use mathlib.Core.Path.{_≡_};
+ghost use Rattle.moved.specs.Moved.{movedRefusal, movedAnswer, movedOut};
+use clipping::clip;
+use placing::place_rows;
+use refusals::size_refusal;
+use rules::Written;
+
+mod clipping;
+mod placing;
+
+fn moved_refusal(w: usize, h: usize, raster: usize, out: usize) -> u32
+    ensures { λ r. ⌜ r ≡ movedRefusal w h raster out ⌝ }
+{
+    if size_refusal(w, h) != 0 {
+        return 2;
+    }
+    let needed = 3 * (w * h);
+    if raster != needed {
+        return 9;
+    }
+    if out < needed {
+        return 10;
+    }
+    0
+}
+
+// The frame moved right by dx and down by dy, with 0,0,0 where nothing comes from inside.
+pub fn moved(w: usize, h: usize, dx: i32, dy: i32, raster: &[u8], out: &mut [u8]) -> Written
+    ensures answer { λ r. ⌜ r ≡ movedAnswer w h (now (raster .entry)) (now (out .entry)) ⌝ }
+    ensures output { λ _. ⌜ now (out .exit) ≡ movedOut w h dx dy (now (raster .entry)) (now (out .entry)) ⌝ }
+{
+    let n = moved_refusal(w, h, raster.len(), out.len());
+    if n != 0 {
+        return Written::Refused(n);
+    }
+    place_rows(raster, out, w, h, clip(w, dx), clip(h, dy));
+    Written::Done
+}

@@ -1,0 +1,2 @@
+-- Laws of the blink row.
+pub mod BlinkLaws

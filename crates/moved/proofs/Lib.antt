@@ -1,0 +1,2 @@
+-- Laws of the moved frame.
+pub mod SpanLaws
