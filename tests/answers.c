@@ -4,6 +4,7 @@
 
 #include <stdio.h>
 #include <stdlib.h>
+#include <string.h>
 
 enum { SMALL_SIDE = 4, MAX_SIDE = 4096, MAX_S = 8, MAX_N = 17 };
 
@@ -213,12 +214,15 @@ static void answer_blink(const struct vector *v, struct answer *a)
     a->values[1] = (uint32_t)length;
 }
 
+/* The text, and the whole buffer that it was written into. */
 static void answer_bracket(const struct vector *v, struct answer *a)
 {
-    uint8_t *out = memory(REF_BRACKET_ROOM);
+    uint8_t *text = memory(REF_BRACKET_ROOM), *out = lent_bytes(REF_BRACKET_ROOM);
     size_t length = ref_bracket(v->in[0].data, v->in[0].length, v->in[1].data, v->in[1].length, v->in[2].data,
-                                v->in[2].length, out);
-    hold(a, 0, out, length, true);
+                                v->in[2].length, text);
+    memcpy(out, text, length);
+    hold(a, 0, text, length, true);
+    hold(a, 1, out, REF_BRACKET_ROOM, false);
 }
 
 struct answer answer_of(const struct vector *v)

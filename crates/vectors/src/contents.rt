@@ -1,7 +1,9 @@
 // Comparison of lent buffers with their expected contents: in full, or by a digest.
 
+use crate::data::MOST_NUMBERS;
 use crate::data::number_of;
 use crate::data::part;
+use crate::data::pool;
 use crate::data::signed;
 use crate::data::word_at;
 use crate::data::word_of;
@@ -10,9 +12,6 @@ use crate::data::word_of;
 const FULL_BYTES: usize = 256;
 
 const FULL_WORDS: usize = 32;
-
-// More offsets or counts than any record has.
-const MOST_NUMBERS: usize = 65536;
 
 const DIGEST_BASIS: u64 = 0xCBF29CE484222325;
 
@@ -113,30 +112,30 @@ fn same_offsets(offsets: &[i32], bytes: &[u8]) -> bool {
 }
 
 // Whether a buffer holds what stands at a place of the pool.
-pub fn bytes_are(buffer: &[u8], pool: &[u8], at: usize) -> bool {
+pub fn bytes_are(buffer: &[u8], data: &[u8], at: usize) -> bool {
     if FULL_BYTES < buffer.len() {
-        return byte_digest(buffer) == word_at(pool, at);
+        return byte_digest(buffer) == word_at(pool(data), at);
     }
-    same_bytes(buffer, part(pool, at, buffer.len()))
+    same_bytes(buffer, part(pool(data), at, buffer.len()))
 }
 
-pub fn words_are(buffer: &[u64], pool: &[u8], at: usize) -> bool {
+pub fn words_are(buffer: &[u64], data: &[u8], at: usize) -> bool {
     if FULL_WORDS < buffer.len() {
-        return word_digest(buffer) == word_at(pool, at);
+        return word_digest(buffer) == word_at(pool(data), at);
     }
-    same_words(buffer, part(pool, at, 8 * buffer.len()))
+    same_words(buffer, part(pool(data), at, 8 * buffer.len()))
 }
 
-pub fn counts_are(buffer: &[u32], pool: &[u8], at: usize) -> bool {
+pub fn counts_are(buffer: &[u32], data: &[u8], at: usize) -> bool {
     if MOST_NUMBERS < buffer.len() {
         return false;
     }
-    same_counts(buffer, part(pool, at, 4 * buffer.len()))
+    same_counts(buffer, part(pool(data), at, 4 * buffer.len()))
 }
 
-pub fn offsets_are(buffer: &[i32], pool: &[u8], at: usize) -> bool {
+pub fn offsets_are(buffer: &[i32], data: &[u8], at: usize) -> bool {
     if MOST_NUMBERS < buffer.len() {
         return false;
     }
-    same_offsets(buffer, part(pool, at, 4 * buffer.len()))
+    same_offsets(buffer, part(pool(data), at, 4 * buffer.len()))
 }

@@ -1,7 +1,8 @@
 // Numbers and parts of a data file (tests/FORMAT.md). Nothing here requires anything: past the end a
 // number is 0, and a part that does not fit is empty.
 
-pub const RECORD_BYTES: usize = 128;
+// Where the header has the pool's beginning.
+const POOL: usize = 12;
 
 // Numbers of a record.
 pub const CALL: usize = 0;
@@ -26,14 +27,12 @@ pub const MOVE_X: usize = 9;
 
 pub const MOVE_Y: usize = 10;
 
-// Inputs and outputs: each takes two numbers from here on.
+// Inputs: place and length. Outputs and work memory: length and place of the expected contents.
 pub const INPUT1: usize = 11;
 
 pub const INPUT2: usize = 13;
 
 pub const INPUT3: usize = 15;
-
-pub const INPUT4: usize = 17;
 
 pub const OUTPUT1: usize = 19;
 
@@ -43,7 +42,6 @@ pub const GREY: usize = 23;
 
 pub const WORDS: usize = 25;
 
-// Expected values: four.
 pub const VALUE1: usize = 27;
 
 pub const VALUE2: usize = 28;
@@ -55,6 +53,9 @@ pub const VALUE4: usize = 30;
 pub const SCENE: usize = 31;
 
 const FIELDS: usize = 32;
+
+// More than any record has as an input or output that is not bytes.
+pub const MOST_NUMBERS: usize = 65536;
 
 fn byte_at(bytes: &[u8], at: usize) -> u8 {
     if at < bytes.len() { bytes[at] } else { 0 }
@@ -109,7 +110,6 @@ pub fn signed(bits: u32) -> i32 {
     }
 }
 
-// The bytes from a place on.
 pub fn part(bytes: &[u8], from: usize, length: usize) -> &[u8] {
     if from <= bytes.len() {
         if length <= bytes.len() - from {
@@ -120,27 +120,60 @@ pub fn part(bytes: &[u8], from: usize, length: usize) -> &[u8] {
     &bytes[0..0]
 }
 
-// A number of a record.
-pub fn field(record: &[u8], k: usize) -> u32 {
+pub fn pool(data: &[u8]) -> &[u8] {
+    let begin = number_at(data, POOL) as usize;
+    if data.len() < begin {
+        return &data[0..0];
+    }
+    &data[begin..]
+}
+
+// Number k of the record at a place.
+pub fn field(data: &[u8], at: usize, k: usize) -> u32 {
+    if data.len() <= at {
+        return 0;
+    }
     if FIELDS <= k {
         return 0;
     }
-    number_at(record, 4 * k)
+    number_at(data, at + 4 * k)
 }
 
-pub fn size(record: &[u8], k: usize) -> usize {
-    field(record, k) as usize
+pub fn size(data: &[u8], at: usize, k: usize) -> usize {
+    field(data, at, k) as usize
 }
 
 // The second number of an input or output.
-pub fn second_size(record: &[u8], k: usize) -> usize {
+pub fn second(data: &[u8], at: usize, k: usize) -> usize {
     if FIELDS <= k {
         return 0;
     }
-    size(record, k + 1)
+    size(data, at, k + 1)
 }
 
-// An input of bytes: place in the pool, and length.
-pub fn input<'a>(record: &[u8], pool: &'a [u8], k: usize) -> &'a [u8] {
-    part(pool, size(record, k), second_size(record, k))
+// An input of the record, as a part of the bytes that its place counts in.
+pub fn input_in<'a>(source: &'a [u8], data: &[u8], at: usize, k: usize) -> &'a [u8] {
+    part(source, size(data, at, k), second(data, at, k))
+}
+
+pub fn input(data: &[u8], at: usize, k: usize) -> &[u8] {
+    part(pool(data), size(data, at, k), second(data, at, k))
+}
+
+// The bytes of an input of 32-bit numbers; of more than any record has, none.
+pub fn numbers_input(data: &[u8], at: usize, k: usize) -> &[u8] {
+    let length = second(data, at, k);
+    if MOST_NUMBERS < length {
+        return &data[0..0];
+    }
+    part(pool(data), size(data, at, k), 4 * length)
+}
+
+// The same of 64-bit numbers.
+pub fn words_input(data: &[u8], at: usize, k: usize) -> &[u8] {
+    let length = second(data, at, k);
+    if MOST_NUMBERS < length {
+        return &data[0..0];
+    }
+    part(pool(data), size(data, at, k), 8 * length)
 }

@@ -132,14 +132,14 @@ fn make_bytes(plan: Plan, out: &mut [u8]) {
     }
 }
 
-// The made bytes of a record.
-pub fn make_frames(record: &[u8], out: &mut [u8]) {
+// The made bytes of the record at a place.
+pub fn make_frames(data: &[u8], at: usize, out: &mut [u8]) {
     let plan = Plan {
-        scene: field(record, SCENE) as u64,
-        w: field(record, WIDTH) as u64,
-        rows: field(record, VALUE4) as u64,
-        move_x: field(record, MOVE_X) as u64,
-        move_y: field(record, MOVE_Y) as u64,
+        scene: field(data, at, SCENE) as u64,
+        w: field(data, at, WIDTH) as u64,
+        rows: field(data, at, VALUE4) as u64,
+        move_x: field(data, at, MOVE_X) as u64,
+        move_y: field(data, at, MOVE_Y) as u64,
     };
     make_bytes(plan, out);
 }

@@ -7,20 +7,23 @@ use Rattle.vectors.proofs.groups.run_groups.Statement.{statement}
 use Rattle.vectors.proofs.groups.run_groups.Tie as tie
 
 abbrev Inv-loop : tie.InvT-loop
-Inv-loop groups table pool space₀ grey₀ words₀ count tally₀ g₀ space grey words tally g =
+Inv-loop «data» count space₀ grey₀ words₀ tally₀ k₀ space grey words tally k =
     (length space ≡ length space₀) × (length grey ≡ length grey₀) × (length words ≡ length words₀)
 
 abbrev μ-loop : tie.MeasureT-loop
-μ-loop groups table pool space₀ grey₀ words₀ count tally₀ g₀ space grey words tally g = count - g
+μ-loop «data» count space₀ grey₀ words₀ tally₀ k₀ space grey words tally k = count - k
 
 loop-holds : tie.Need-loop-holds Inv-loop μ-loop
 loop-holds c = search needs
 
-mul-part : tie.Need-mul-part Inv-loop μ-loop
-mul-part c = search needs
+cast-at : tie.Need-cast-at Inv-loop μ-loop
+cast-at c = search needs
 
-part-requires : tie.Need-part-requires Inv-loop μ-loop
-part-requires c κs = search needs
+mul-at : tie.Need-mul-at Inv-loop μ-loop
+mul-at c = search needs
+
+add-at : tie.Need-add-at Inv-loop μ-loop
+add-at c = search needs
 
 run-group-requires : tie.Need-run-group-requires Inv-loop μ-loop
 run-group-requires c κs = search needs
@@ -28,8 +31,8 @@ run-group-requires c κs = search needs
 both-requires : tie.Need-both-requires Inv-loop μ-loop
 both-requires c κs = search needs
 
-add-g : tie.Need-add-g Inv-loop μ-loop
-add-g c = search needs
+add-k : tie.Need-add-k Inv-loop μ-loop
+add-k c = search needs
 
 loop-less : tie.Need-loop-less Inv-loop μ-loop
 loop-less c = search needs
@@ -56,11 +59,12 @@ run-groups-spec =
     Inv-loop
     μ-loop
     loop-holds
-    mul-part
-    part-requires
+    cast-at
+    mul-at
+    add-at
     run-group-requires
     both-requires
-    add-g
+    add-k
     loop-less
     loop-again
     same-length

@@ -7,20 +7,23 @@ use Rattle.vectors.proofs.groups.run_records.Statement.{statement}
 use Rattle.vectors.proofs.groups.run_records.Tie as tie
 
 abbrev Inv-loop : tie.InvT-loop
-Inv-loop records pool space₀ grey₀ words₀ count differ₀ k₀ space grey words differ k =
+Inv-loop «data» begin count space₀ grey₀ words₀ differ₀ k₀ space grey words differ k =
     (length space ≡ length space₀) × (length grey ≡ length grey₀) × (length words ≡ length words₀)
 
 abbrev μ-loop : tie.MeasureT-loop
-μ-loop records pool space₀ grey₀ words₀ count differ₀ k₀ space grey words differ k = count - k
+μ-loop «data» begin count space₀ grey₀ words₀ differ₀ k₀ space grey words differ k = count - k
 
 loop-holds : tie.Need-loop-holds Inv-loop μ-loop
 loop-holds c = search needs
 
-mul-part : tie.Need-mul-part Inv-loop μ-loop
-mul-part c = search needs
+cast-at : tie.Need-cast-at Inv-loop μ-loop
+cast-at c = search needs
 
-part-requires : tie.Need-part-requires Inv-loop μ-loop
-part-requires c κs = search needs
+mul-at : tie.Need-mul-at Inv-loop μ-loop
+mul-at c = search needs
+
+add-at : tie.Need-add-at Inv-loop μ-loop
+add-at c = search needs
 
 run-record-requires : tie.Need-run-record-requires Inv-loop μ-loop
 run-record-requires c κs = search needs
@@ -56,8 +59,9 @@ run-records-spec =
     Inv-loop
     μ-loop
     loop-holds
-    mul-part
-    part-requires
+    cast-at
+    mul-at
+    add-at
     run-record-requires
     differing-requires
     add-k
