@@ -1,0 +1,179 @@
+// Numbers and parts of a data file (tests/FORMAT.md). Nothing here requires anything: past the end a
+// number is 0, and a part that does not fit is empty.
+
+// Where the header has the pool's beginning.
+const POOL: usize = 12;
+
+// Numbers of a record.
+pub const CALL: usize = 0;
+
+pub const REFUSAL: usize = 1;
+
+pub const WIDTH: usize = 2;
+
+pub const HEIGHT: usize = 3;
+
+pub const HALVINGS: usize = 4;
+
+pub const TOLERANCE: usize = 5;
+
+pub const PERCENTILE: usize = 6;
+
+pub const FRAMES: usize = 7;
+
+pub const REFERENCE: usize = 8;
+
+pub const MOVE_X: usize = 9;
+
+pub const MOVE_Y: usize = 10;
+
+// Inputs: place and length. Outputs and work memory: length and place of the expected contents.
+pub const INPUT1: usize = 11;
+
+pub const INPUT2: usize = 13;
+
+pub const INPUT3: usize = 15;
+
+pub const OUTPUT1: usize = 19;
+
+pub const OUTPUT2: usize = 21;
+
+pub const GREY: usize = 23;
+
+pub const WORDS: usize = 25;
+
+pub const VALUE1: usize = 27;
+
+pub const VALUE2: usize = 28;
+
+pub const VALUE3: usize = 29;
+
+pub const VALUE4: usize = 30;
+
+pub const SCENE: usize = 31;
+
+const FIELDS: usize = 32;
+
+// More than any record has as an input or output that is not bytes.
+pub const MOST_NUMBERS: usize = 65536;
+
+fn byte_at(bytes: &[u8], at: usize) -> u8 {
+    if at < bytes.len() { bytes[at] } else { 0 }
+}
+
+// The 32-bit number at a place.
+pub fn number_at(bytes: &[u8], at: usize) -> u32 {
+    if bytes.len() <= at {
+        return 0;
+    }
+    if bytes.len() - at < 4 {
+        return 0;
+    }
+    let low = byte_at(bytes, at) as u32 + 256 * (byte_at(bytes, at + 1) as u32);
+    let high = byte_at(bytes, at + 2) as u32 + 256 * (byte_at(bytes, at + 3) as u32);
+    low + 65536 * high
+}
+
+// The 64-bit number at a place.
+pub fn word_at(bytes: &[u8], at: usize) -> u64 {
+    if bytes.len() <= at {
+        return 0;
+    }
+    if bytes.len() - at < 8 {
+        return 0;
+    }
+    number_at(bytes, at) as u64 + 4294967296 * (number_at(bytes, at + 4) as u64)
+}
+
+// Number i of the 32-bit numbers that the bytes are.
+pub fn number_of(bytes: &[u8], i: usize) -> u32 {
+    if bytes.len() / 4 <= i {
+        return 0;
+    }
+    number_at(bytes, 4 * i)
+}
+
+// Number i of the 64-bit numbers that the bytes are.
+pub fn word_of(bytes: &[u8], i: usize) -> u64 {
+    if bytes.len() / 8 <= i {
+        return 0;
+    }
+    word_at(bytes, 8 * i)
+}
+
+// The signed number of these 32 bits.
+pub fn signed(bits: u32) -> i32 {
+    if bits < 2147483648 {
+        bits as i32
+    } else {
+        !((4294967295 - bits) as i32)
+    }
+}
+
+pub fn part(bytes: &[u8], from: usize, length: usize) -> &[u8] {
+    if from <= bytes.len() {
+        if length <= bytes.len() - from {
+            let end = from + length;
+            return &bytes[from..end];
+        }
+    }
+    &bytes[0..0]
+}
+
+pub fn pool(data: &[u8]) -> &[u8] {
+    let begin = number_at(data, POOL) as usize;
+    if data.len() < begin {
+        return &data[0..0];
+    }
+    &data[begin..]
+}
+
+// Number k of the record at a place.
+pub fn field(data: &[u8], at: usize, k: usize) -> u32 {
+    if data.len() <= at {
+        return 0;
+    }
+    if FIELDS <= k {
+        return 0;
+    }
+    number_at(data, at + 4 * k)
+}
+
+pub fn size(data: &[u8], at: usize, k: usize) -> usize {
+    field(data, at, k) as usize
+}
+
+// The second number of an input or output.
+pub fn second(data: &[u8], at: usize, k: usize) -> usize {
+    if FIELDS <= k {
+        return 0;
+    }
+    size(data, at, k + 1)
+}
+
+// An input of the record, as a part of the bytes that its place counts in.
+pub fn input_in<'a>(source: &'a [u8], data: &[u8], at: usize, k: usize) -> &'a [u8] {
+    part(source, size(data, at, k), second(data, at, k))
+}
+
+pub fn input(data: &[u8], at: usize, k: usize) -> &[u8] {
+    part(pool(data), size(data, at, k), second(data, at, k))
+}
+
+// The bytes of an input of 32-bit numbers; of more than any record has, none.
+pub fn numbers_input(data: &[u8], at: usize, k: usize) -> &[u8] {
+    let length = second(data, at, k);
+    if MOST_NUMBERS < length {
+        return &data[0..0];
+    }
+    part(pool(data), size(data, at, k), 4 * length)
+}
+
+// The same of 64-bit numbers.
+pub fn words_input(data: &[u8], at: usize, k: usize) -> &[u8] {
+    let length = second(data, at, k);
+    if MOST_NUMBERS < length {
+        return &data[0..0];
+    }
+    part(pool(data), size(data, at, k), 8 * length)
+}
