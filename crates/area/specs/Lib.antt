@@ -1,2 +1,3 @@
--- The common area.
+-- The common area, and what its sides are worked out from.
 pub mod Common
+pub mod Sides

@@ -1,3 +1,4 @@
 -- Laws of answers as C gets them.
 pub mod ToldLaws
 pub mod NeededLaws
+pub mod FitLaws

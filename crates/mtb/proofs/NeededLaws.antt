@@ -1,12 +1,12 @@
 -- What accepted sizes and halvings say of the work memory needed.
-use mathlib.Core.Path.{_≡_, refl}
-use Prim.Native.Nat.{ℕ, zero, suc, _≤_}
+use mathlib.Core.Path.{_≡_}
+use Prim.Native.Nat.{ℕ, _≤_}
 use native.Mathlib.Omega.{arith}
 use borrow.Author.Tests.{ltb-false}
 use Rattle.rules.specs.Limits.{maxHalvings}
 use Rattle.rules.specs.Refusals.{_when_, _orElse_, badSize, badHalvings, tooSmall}
 use Rattle.rules.proofs.RefusalLaws.{SizeOk, size-ok, when-no, orElse-no}
-use Rattle.mtb.specs.Told.{told, shapeRefusal}
+use Rattle.mtb.specs.Told.{shapeRefusal}
 
 pub record ShapeOk (w h s : ℕ) : Type 0 where
   pub size : SizeOk w h
@@ -21,12 +21,3 @@ shape-ok w h s e =
       size = size-ok w h (p .0);
       halvings = ltb-false maxHalvings s (when-no 3 (badHalvings s) (omega arith) (q .0));
     }
-
--- What is told of the memory needed, by a refusal number n that a function gave.
-pub none-needed : (k n v : ℕ) → n ≡ k → (n ≡ 0 → ⊥) → 0 ≡ told k v 0
-none-needed zero n v e l = absurd (l e)
-none-needed (suc k) n v e l = refl
-
-pub needed : (k n v x : ℕ) → n ≡ k → n ≡ 0 → x ≡ v → x ≡ told k v 0
-needed zero n v x e z p = p
-needed (suc k) n v x e z p = absurd (omega arith)

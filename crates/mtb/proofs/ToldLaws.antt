@@ -1,15 +1,32 @@
--- What C is told of an answer is what the answer was made from: its refusal number k, and where that is 0 its value.
+-- What C is told of a call. An answer made from a refusal number k and a value tells them back: accepted only where k is 0, else refused with k.
 use mathlib.Core.Path.{_≡_, refl, ap, _∙_}
 use Prim.Native.Nat.{ℕ, zero, suc}
 use native.Mathlib.Omega.{arith}
-use lib.IntN.{ℤ}
 use Rattle.rules.specs.declared.Written.{Written}
 use Rattle.rules.specs.declared.Counted.{Counted}
 use Rattle.rules.specs.declared.Thresholded.{Thresholded}
 use Rattle.rules.specs.declared.Offset.{Offset}
 use Rattle.rules.specs.declared.Paired.{Paired}
 use Rattle.rules.specs.Answers.{written, counted, thresholded, paired}
+use Rattle.ppm.specs.declared.Size.{Size}
+use Rattle.ppm.specs.declared.Held.{Held}
+use Rattle.ppm.specs.declared.Stored.{Stored}
+use Rattle.ppm.specs.P6.{held, stored}
+use Rattle.area.specs.declared.Area.{Area}
+use Rattle.area.specs.declared.Common.{Common}
+use Rattle.area.specs.Common.{common}
+use Rattle.blink.specs.declared.Row.{Row}
+use Rattle.blink.specs.Blink.{rowAt}
 use Rattle.mtb.specs.Told.{told, refusalIn}
+
+-- A pointer's place after an accepted call, and after a refused one.
+pub told-accepted : {A : Type 0} (k : ℕ) (value x before : A) → 0 ≡ k → x ≡ value → x ≡ told k value before
+told-accepted zero value x before z e = e
+told-accepted (suc k) value x before z e = absurd (omega arith)
+
+pub told-refused : {A : Type 0} (k n : ℕ) (value before : A) → n ≡ k → (n ≡ 0 → ⊥) → before ≡ told k value before
+told-refused zero n value before e l = absurd (l e)
+told-refused (suc k) n value before e l = refl
 
 in-written : (k : ℕ) → refusalIn (written k) ≡ k
 in-written zero = refl
@@ -18,28 +35,58 @@ in-written (suc k) = refl
 pub written-told : (k n : ℕ) (answer : Written) → n ≡ refusalIn answer → answer ≡ written k → n ≡ k
 written-told k n answer e made = e ∙ ap refusalIn made ∙ in-written k
 
-pub counted-count : (k v x before : ℕ) → Counted.Count x ≡ counted k v → (0 ≡ k) × (x ≡ told k v before)
-counted-count zero v x before e = (refl, cc)
-counted-count (suc k) v x before e = let z : _≡_ {A = ℕ} 0 1 = cc in absurd (omega arith)
+pub counted-count : (k v x : ℕ) → Counted.Count x ≡ counted k v → (0 ≡ k) × (x ≡ v)
+counted-count zero v x e = (refl, cc)
+counted-count (suc k) v x e = let z : _≡_ {A = ℕ} 0 1 = cc in absurd (omega arith)
 
-pub counted-refused : (k v n before : ℕ) → Counted.Refused n ≡ counted k v → (n ≡ k) × (before ≡ told k v before)
-counted-refused zero v n before e = let z : _≡_ {A = ℕ} 0 1 = cc in absurd (omega arith)
-counted-refused (suc k) v n before e = (cc, refl)
+pub counted-refused : (k v n : ℕ) → Counted.Refused n ≡ counted k v → (n ≡ k) × (n ≡ 0 → ⊥)
+counted-refused zero v n e = let z : _≡_ {A = ℕ} 0 1 = cc in absurd (omega arith)
+counted-refused (suc k) v n e = let d : n ≡ suc k = cc in (d, λ z. omega arith)
 
-pub thresholded-at : (k v x before : ℕ) → Thresholded.At x ≡ thresholded k v → (0 ≡ k) × (x ≡ told k v before)
-thresholded-at zero v x before e = (refl, cc)
-thresholded-at (suc k) v x before e = let z : _≡_ {A = ℕ} 0 1 = cc in absurd (omega arith)
+pub thresholded-at : (k v x : ℕ) → Thresholded.At x ≡ thresholded k v → (0 ≡ k) × (x ≡ v)
+thresholded-at zero v x e = (refl, cc)
+thresholded-at (suc k) v x e = let z : _≡_ {A = ℕ} 0 1 = cc in absurd (omega arith)
 
-pub thresholded-refused : (k v n before : ℕ) → Thresholded.Refused n ≡ thresholded k v → (n ≡ k) × (before ≡ told k v before)
-thresholded-refused zero v n before e = let z : _≡_ {A = ℕ} 0 1 = cc in absurd (omega arith)
-thresholded-refused (suc k) v n before e = (cc, refl)
+pub thresholded-refused : (k v n : ℕ) → Thresholded.Refused n ≡ thresholded k v → (n ≡ k) × (n ≡ 0 → ⊥)
+thresholded-refused zero v n e = let z : _≡_ {A = ℕ} 0 1 = cc in absurd (omega arith)
+thresholded-refused (suc k) v n e = let d : n ≡ suc k = cc in (d, λ z. omega arith)
 
-pub paired-moved : (k : ℕ) (v x : Offset) (dx dy : ℤ) → Paired.Moved x ≡ paired k v
-    → (0 ≡ k) × ((x .dx ≡ told k (v .dx) dx) × (x .dy ≡ told k (v .dy) dy))
-paired-moved zero v x dx dy e = let o : x ≡ v = cc in (refl, (cc, cc))
-paired-moved (suc k) v x dx dy e = let z : _≡_ {A = ℕ} 0 1 = cc in absurd (omega arith)
+pub paired-moved : (k : ℕ) (v x : Offset) → Paired.Moved x ≡ paired k v → (0 ≡ k) × (x ≡ v)
+paired-moved zero v x e = (refl, cc)
+paired-moved (suc k) v x e = let z : _≡_ {A = ℕ} 0 1 = cc in absurd (omega arith)
 
-pub paired-refused : (k : ℕ) (v : Offset) (n : ℕ) (dx dy : ℤ) → Paired.Refused n ≡ paired k v
-    → (n ≡ k) × ((dx ≡ told k (v .dx) dx) × (dy ≡ told k (v .dy) dy))
-paired-refused zero v n dx dy e = let z : _≡_ {A = ℕ} 0 1 = cc in absurd (omega arith)
-paired-refused (suc k) v n dx dy e = (cc, (refl, refl))
+pub paired-refused : (k : ℕ) (v : Offset) (n : ℕ) → Paired.Refused n ≡ paired k v → (n ≡ k) × (n ≡ 0 → ⊥)
+paired-refused zero v n e = let z : _≡_ {A = ℕ} 0 1 = cc in absurd (omega arith)
+paired-refused (suc k) v n e = let d : n ≡ suc k = cc in (d, λ z. omega arith)
+
+pub held-frame : (k : ℕ) (v x : Size) → Held.Frame x ≡ held k v → (0 ≡ k) × (x ≡ v)
+held-frame zero v x e = (refl, cc)
+held-frame (suc k) v x e = let z : _≡_ {A = ℕ} 0 1 = cc in absurd (omega arith)
+
+pub held-refused : (k : ℕ) (v : Size) (n : ℕ) → Held.Refused n ≡ held k v → (n ≡ k) × (n ≡ 0 → ⊥)
+held-refused zero v n e = let z : _≡_ {A = ℕ} 0 1 = cc in absurd (omega arith)
+held-refused (suc k) v n e = let d : n ≡ suc k = cc in (d, λ z. omega arith)
+
+pub stored-bytes : (k v x : ℕ) → Stored.Bytes x ≡ stored k v → (0 ≡ k) × (x ≡ v)
+stored-bytes zero v x e = (refl, cc)
+stored-bytes (suc k) v x e = let z : _≡_ {A = ℕ} 0 1 = cc in absurd (omega arith)
+
+pub stored-refused : (k v n : ℕ) → Stored.Refused n ≡ stored k v → (n ≡ k) × (n ≡ 0 → ⊥)
+stored-refused zero v n e = let z : _≡_ {A = ℕ} 0 1 = cc in absurd (omega arith)
+stored-refused (suc k) v n e = let d : n ≡ suc k = cc in (d, λ z. omega arith)
+
+pub common-area : (k : ℕ) (v x : Area) → Common.Area x ≡ common k v → (0 ≡ k) × (x ≡ v)
+common-area zero v x e = (refl, cc)
+common-area (suc k) v x e = let z : _≡_ {A = ℕ} 0 1 = cc in absurd (omega arith)
+
+pub common-refused : (k : ℕ) (v : Area) (n : ℕ) → Common.Refused n ≡ common k v → (n ≡ k) × (n ≡ 0 → ⊥)
+common-refused zero v n e = let z : _≡_ {A = ℕ} 0 1 = cc in absurd (omega arith)
+common-refused (suc k) v n e = let d : n ≡ suc k = cc in (d, λ z. omega arith)
+
+pub row-at : (k v x : ℕ) → Row.At x ≡ rowAt k v → (0 ≡ k) × (x ≡ v)
+row-at zero v x e = (refl, cc)
+row-at (suc k) v x e = let z : _≡_ {A = ℕ} 0 1 = cc in absurd (omega arith)
+
+pub row-refused : (k v n : ℕ) → Row.Refused n ≡ rowAt k v → (n ≡ k) × (n ≡ 0 → ⊥)
+row-refused zero v n e = let z : _≡_ {A = ℕ} 0 1 = cc in absurd (omega arith)
+row-refused (suc k) v n e = let d : n ≡ suc k = cc in (d, λ z. omega arith)

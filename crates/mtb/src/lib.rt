@@ -3,4 +3,6 @@
 mod alignment;
 mod answers;
 mod bitmaps;
+mod files;
 mod frames;
+mod views;

@@ -1,10 +1,8 @@
 -- Writing a frame and then reading it is the identity.
 use mathlib.Core.Path.{_≡_}
-use mathlib.Core.Bool.{false}
 use mathlib.Core.List.{List}
 use Prim.Native.Nat.{ℕ}
 use lib.ListN.{length, take}
-use Rattle.rules.specs.Refusals.{rasterLength}
 use Rattle.ppm.specs.declared.Held.{Held}
 use Rattle.ppm.specs.P6.{writeRefusal, p6File, writeOut, sizeAnswer, rasterOf}
 

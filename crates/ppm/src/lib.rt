@@ -1,5 +1,11 @@
 // P6 files (Netpbm's ppm): the offered calls.
 
+pub mod reading;
+pub mod writing;
+
+ghost use mathlib.Core.Path.{_≡_};
+ghost use Rattle.ppm.specs.P6.{rasterOf, sizeAnswer, writeAnswer, writeOut};
+
 // A frame's width and height.
 pub struct Size {
     pub w: usize,
@@ -22,4 +28,45 @@ pub enum Stored {
 pub enum Header {
     Good { w: u32, h: u32, start: usize },
     Bad,
+}
+
+// The bytes that every P6 file begins with.
+const MAGIC: [u8; 2] = *b"P6";
+
+// The largest value of a sample, the only one that is read and written.
+const LARGEST: u32 = 255;
+
+// The raster of a P6 file, as the part of the file's bytes that it is; empty when refused.
+pub fn p6_raster(file: &[u8]) -> &[u8]
+    ensures { λ r. ⌜ now r ≡ rasterOf (now (file .entry)) ⌝ }
+{
+    if reading::file_refusal(file) != 0 {
+        return &file[..0];
+    }
+    let start = reading::raster_start(file);
+    &file[start..]
+}
+
+// The companion: the size of the frame that a P6 file holds.
+pub fn p6_size(file: &[u8]) -> Held
+    ensures { λ r. ⌜ r ≡ sizeAnswer (now (file .entry)) ⌝ }
+{
+    let n = reading::file_refusal(file);
+    if n != 0 {
+        return Held::Refused(n);
+    }
+    Held::Frame(reading::frame_size(file))
+}
+
+// Writes a P6 file into a lent buffer, and tells the number of its bytes.
+pub fn p6_write(w: usize, h: usize, raster: &[u8], out: &mut [u8]) -> Stored
+    ensures answer { λ r. ⌜ r ≡ writeAnswer w h (now (raster .entry)) (now (out .entry)) ⌝ }
+    ensures output { λ _. ⌜ now (out .exit) ≡ writeOut w h (now (raster .entry)) (now (out .entry)) ⌝ }
+{
+    let n = writing::write_refusal(w, h, raster.len(), out.len());
+    if n != 0 {
+        return Stored::Refused(n);
+    }
+    let start = writing::put_header(out, w as u32, h as u32);
+    Stored::Bytes(text::put(out, start, raster))
 }

@@ -4,7 +4,8 @@ use Prim.Native.Nat.{ℕ, _*_}
 use native.Mathlib.Omega.{arith}
 use borrow.Author.Needs.{needs}
 use Rattle.rules.proofs.AlignmentLaws.{level-pixels-fit}
-use Rattle.mtb.proofs.NeededLaws.{ShapeOk, shape-ok, needed, none-needed}
+use Rattle.mtb.proofs.NeededLaws.{ShapeOk, shape-ok}
+use Rattle.mtb.proofs.ToldLaws.{told-accepted, told-refused}
 use Rattle.mtb.proofs.alignment.mtb_grey_needed.Statement.{statement}
 use Rattle.mtb.proofs.alignment.mtb_grey_needed.Tie as tie
 
@@ -12,7 +13,7 @@ shape-refusal-requires : tie.Need-shape-refusal-requires
 shape-refusal-requires c κs = search needs
 
 returns : tie.Need-returns
-returns c = none-needed _ _ _ (c .before .shape-refusal .ensures) (c .if1 .taken)
+returns c = told-refused _ _ _ _ (c .before .shape-refusal .ensures) (c .if1 .taken)
 
 accepted : (c : tie.Else1) → let a = c .before .before .args in ShapeOk (a .w) (a .h) (a .s)
 accepted c = let a = c .before .before .args in shape-ok (a .w) (a .h) (a .s) (sym (c .before .shape-refusal .ensures) ∙ c .if1 .left)
@@ -27,7 +28,7 @@ mul-result c =
     omega (arith, c .level-pixels .ensures, level-pixels-fit (a .s) (a .w) (a .h) (k .size .width) (k .size .height))
 
 returns-2 : tie.Need-returns-2
-returns-2 c = needed _ _ _ _ (c .before .before .shape-refusal .ensures) (c .before .if1 .left) (ap (λ (n : ℕ). 2 * n) (c .level-pixels .ensures))
+returns-2 c = told-accepted _ _ _ _ (sym (c .before .if1 .left) ∙ c .before .before .shape-refusal .ensures) (ap (λ (n : ℕ). 2 * n) (c .level-pixels .ensures))
 
 pub mtb-grey-needed-spec : {M : Type 1} → statement M
 mtb-grey-needed-spec =

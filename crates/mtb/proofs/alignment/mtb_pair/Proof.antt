@@ -1,8 +1,9 @@
 -- An accepted call's offset is told; a refused one's number is, and the pointers' places are left. The buffers are the offered call's.
-use mathlib.Core.Path.{sym, _∙_}
+use mathlib.Core.Path.{sym, ap, _∙_}
 use mir.Facts.{toZ-ofZ}
 use borrow.Author.Needs.{needs}
-use Rattle.mtb.proofs.ToldLaws.{paired-moved, paired-refused}
+use Rattle.rules.specs.declared.Offset.{Offset}
+use Rattle.mtb.proofs.ToldLaws.{paired-moved, paired-refused, told-accepted, told-refused}
 use Rattle.mtb.proofs.alignment.mtb_pair.Statement.{statement}
 use Rattle.mtb.proofs.alignment.mtb_pair.Tie as tie
 
@@ -27,8 +28,16 @@ same-length-3 c = search needs
 returns : tie.Need-returns
 returns c =
     let call = c .before .before .before .before .before .before .before .before .before .before .before .pair in
-    let m = paired-moved _ _ _ _ _ (sym (c .before .before .before .offset .given .1) ∙ call .ensures .0) in
-    (m .0, (toZ-ofZ (record { sfits = c .before .struct-told .given .0 .1 }) ∙ m .1 .0, (toZ-ofZ (record { sfits = c .struct-told2 .given .1 .0 .1 }) ∙ m .1 .1, (call .ensures .1 .0, call .ensures .1 .1))))
+    let m = paired-moved _ _ _ (sym (c .before .before .before .offset .given .1) ∙ call .ensures .0) in (
+      m .0,
+      (
+        toZ-ofZ (record { sfits = c .before .struct-told .given .0 .1 }) ∙ told-accepted _ _ _ _ (m .0) (ap (λ (o : Offset). o .dx) (m .1)),
+        (
+          toZ-ofZ (record { sfits = c .struct-told2 .given .1 .0 .1 }) ∙ told-accepted _ _ _ _ (m .0) (ap (λ (o : Offset). o .dy) (m .1)),
+          call .ensures .1,
+        ),
+      ),
+    )
 
 same-length-4 : tie.Need-same-length-4
 same-length-4 c = search needs
@@ -42,8 +51,8 @@ same-length-6 c = search needs
 returns-2 : tie.Need-returns-2
 returns-2 c =
     let call = c .before .before .before .before .before .before .before .before .before .pair in
-    let m = paired-refused _ _ _ _ _ (sym (c .before .n .given .1) ∙ call .ensures .0) in
-    (m .0, (m .1 .0, (m .1 .1, (call .ensures .1 .0, call .ensures .1 .1))))
+    let m = paired-refused _ _ _ (sym (c .before .n .given .1) ∙ call .ensures .0) in
+    (m .0, (told-refused _ _ _ _ (m .0) (m .1), (told-refused _ _ _ _ (m .0) (m .1), call .ensures .1)))
 
 pub mtb-pair-spec : {M : Type 1} → statement M
 mtb-pair-spec =

@@ -1,0 +1,2 @@
+-- Laws of the common area.
+pub mod SideLaws

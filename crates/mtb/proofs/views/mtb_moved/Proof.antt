@@ -1,0 +1,30 @@
+-- The offered call's own contract, at the moves as they were passed; its answer is told as a number.
+use mathlib.Core.Path.{_∙_}
+use mir.Facts.{toZ-ofZ}
+use borrow.Author.Needs.{needs}
+use Rattle.moved.specs.Moved.{movedOut}
+use Rattle.mtb.proofs.ToldLaws.{written-told}
+use Rattle.mtb.proofs.views.mtb_moved.Statement.{statement}
+use Rattle.mtb.proofs.views.mtb_moved.Tie as tie
+
+moved-requires : tie.Need-moved-requires
+moved-requires c κs = search needs
+
+refusal-in-requires : tie.Need-refusal-in-requires
+refusal-in-requires c κs = search needs
+
+same-length : tie.Need-same-length
+same-length c = search needs
+
+returns : tie.Need-returns
+returns c =
+    let s = c .before .before .before .before .before .before .before in
+    let a = s .args in
+    let call = c .before .before .before .moved in (
+      written-told _ _ _ (c .refusal-in .ensures) (call .ensures .0),
+      call .ensures .1
+          ∙ (λ i. movedOut (a .w) (a .h) (toZ-ofZ (s .fits .dx) i) (toZ-ofZ (s .fits .dy) i) (a .raster .now) (a .out .now)),
+    )
+
+pub mtb-moved-spec : {M : Type 1} → statement M
+mtb-moved-spec = tie.close (tie.spec moved-requires refusal-in-requires same-length returns)

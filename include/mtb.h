@@ -1,0 +1,248 @@
+/*
+ * mtb.h: alignment of exposure brackets by Ward's median threshold bitmaps.
+ *
+ * A camera takes a bracket of exposures; between two frames the picture slides. These functions tell
+ * how far, in whole pixels. Link libmtb.a (x86-64, System V calling convention, no instruction beyond
+ * SSE2). For C99 and later, and for C++. Of the C library it needs memset, memcpy and memmove at most.
+ *
+ * FRAMES
+ *   w, h      width and height, 1 to 4096 each. Pixel (x, y) counts from 0, x to the right, y down.
+ *   raster    3*w*h bytes: rows from the top, three bytes a pixel: red, green, blue.
+ *   grey      w*h bytes: rows from the top, one byte a pixel.
+ *   bitmap    W*h words of 64 bits, W = (w + 63) / 64 a row: pixel (x, y) is bit x % 64, bit 0 the
+ *             lowest, of word y*W + x/64. Bits past w in the last word of a row are written 0, and in
+ *             a lent bitmap read as 0, whatever they are.
+ *   (dx, dy)  a move to the right by dx and down by dy. Where a function takes one, any two numbers do.
+ *
+ * SETTINGS
+ *   s           halvings, 0 to 8. Frames are aligned on s + 1 levels, each half as wide and high as the
+ *               one before. Both sides must be 2^(s+2) at least; offsets reach 2^(s+1) - 1 each way.
+ *   tolerance   0 to 64. Pixels whose grey value is that close to the threshold are left out.
+ *   percentile  17, 50 or 83: where the threshold lies among a frame's grey values; 50 is the median.
+ *
+ * RESULTS
+ *   Every function but the last two of "Alignment" returns 0 when it has accepted its inputs, else the
+ *   number of a refusal, listed below. A refused call has changed nothing: no output, no work memory,
+ *   nothing behind a pointer. An accepted call writes what is needed to the beginning of an output; the
+ *   excess of a longer one stays as it was.
+ *
+ * WHAT IS LENT
+ *   A slice is a pointer and a number of elements (not of bytes). All memory is the caller's, and lent
+ *   until the call returns. Nothing is kept between calls: no heap, no file, no global variable, nothing
+ *   to set up or to free. The caller sees to it that
+ *   - no pointer is NULL, also where its length is 0;
+ *   - a pointer is aligned for its type (uint64_t and size_t to 8 bytes, uint32_t and int32_t to 4),
+ *     and that many elements are there;
+ *   - what a call may write (outputs, work memory, results behind pointers) overlaps nothing else that
+ *     is lent to the same call; inputs, the const ones, may overlap each other or be the same;
+ *   - nobody else writes any of it before the call returns.
+ *   What outputs and work memory hold before a call does not matter.
+ *
+ * THREADS
+ *   The functions share no state. Any number of threads may be inside them at once, each with outputs
+ *   and work memory of its own; inputs may be shared. Every call returns; none waits for anything.
+ *
+ * STACK
+ *   Bytes, with stacked arguments and return address:
+ *     mtb_pair        5408 + 336*s, so 8096 at most     mtb_threshold    4176
+ *     mtb_series      5520 + 336*s, so 8208 at most     mtb_difference   1008
+ *     every other function: below 400
+ *   Measured, not proved: each call was run on a stack that had been painted, and the deepest changed
+ *   byte was looked for, over frames from 1 by 1 to 4096 by 4096 with every s that they allow and
+ *   series of up to 16 frames. Another build of the archive may differ: leave a margin.
+ *
+ * PROOF
+ *   The functions are written in Rattle and proved to meet their contracts: for all inputs lent as above
+ *   the result, and every number written, is that of the definitions in crates/NAME/specs/. What this
+ *   rests on is said in docs/TRUST.md.
+ */
+#ifndef MTB_H
+#define MTB_H
+
+#include <stdbool.h>
+#include <stddef.h>
+#include <stdint.h>
+
+#ifdef __cplusplus
+extern "C" {
+#endif
+
+/* Refusals. A function tests those that its comment lists, and gives the lowest that applies. */
+enum mtb_refusal {
+    MTB_ACCEPTED = 0,
+    MTB_BAD_HEADER = 1,      /* the file has no P6 header, or one with a largest value other than 255 */
+    MTB_BAD_SIZE = 2,        /* a width or height is 0 or above 4096 */
+    MTB_BAD_HALVINGS = 3,    /* s is above 8 */
+    MTB_TOO_SMALL = 4,       /* a side is below 2^(s+2), or for mtb_halve below 2 */
+    MTB_BAD_TOLERANCE = 5,   /* the tolerance is above 64 */
+    MTB_BAD_FRAMES = 6,      /* the number of frames is 0 or above 16 */
+    MTB_BAD_REFERENCE = 7,   /* the reference is not below the number of frames */
+    MTB_BAD_PERCENTILE = 8,  /* a percentile is not 17, 50 or 83, or there are not n - 1 of them */
+    MTB_WRONG_LENGTH = 9,    /* an input, or the raster in a file, has not exactly the needed length */
+    MTB_SHORT_OUTPUT = 10,   /* an output is shorter than needed */
+    MTB_SHORT_MEMORY = 11,   /* the grey or the word work memory is shorter than needed */
+    MTB_FAR_OFFSET = 12,     /* a number of the offsets is outside -32768 to 32767 */
+    MTB_NOTHING_COMMON = 13, /* the common area has no column or no row */
+    MTB_BAD_ROW = 14         /* the row's y is not below the height */
+};
+
+/* ---- Frames ---- */
+
+/*
+ * The grey frame of a raster: (54*red + 183*green + 19*blue) / 256, rounded down, for each pixel.
+ * grey: w*h bytes. Refusals: 2, 9, 10.
+ */
+uint32_t mtb_grey(uint32_t w, uint32_t h,
+                  const uint8_t *raster, size_t raster_len,
+                  uint8_t *grey, size_t grey_len);
+
+/*
+ * A grey frame halved: each new pixel is the second smallest of its four, repeats counted. An odd last
+ * column or row is dropped. out: (w/2)*(h/2) bytes. Refusals: 2, 4, 9, 10.
+ */
+uint32_t mtb_halve(uint32_t w, uint32_t h,
+                   const uint8_t *grey, size_t grey_len,
+                   uint8_t *out, size_t out_len);
+
+/*
+ * The threshold of a grey frame: the smallest grey value v with
+ * 100 * (the number of pixels at most v) >= percentile * w*h. Refusals: 2, 8, 9.
+ */
+uint32_t mtb_threshold(uint32_t w, uint32_t h, uint32_t percentile,
+                       const uint8_t *grey, size_t grey_len,
+                       uint8_t *threshold);
+
+/* ---- Bitmaps ---- */
+
+/*
+ * The two bitmaps of a grey frame. Threshold bit: 1 where the grey value is above the threshold.
+ * Exclusion bit: 0 where it differs from the threshold by the tolerance or less, else 1.
+ * threshold_bits and exclusion_bits: W*h words each. Refusals: 2, 5, 9, 10.
+ */
+uint32_t mtb_bitmaps(uint32_t w, uint32_t h, uint8_t threshold, uint32_t tolerance,
+                     const uint8_t *grey, size_t grey_len,
+                     uint64_t *threshold_bits, size_t threshold_bits_len,
+                     uint64_t *exclusion_bits, size_t exclusion_bits_len);
+
+/*
+ * A bitmap moved: the new bit at (x, y) is the old one at (x - dx, y - dy), 0 where that is outside.
+ * out: W*h words. Refusals: 2, 9, 10.
+ */
+uint32_t mtb_shift(uint32_t w, uint32_t h, int32_t dx, int32_t dy,
+                   const uint64_t *bitmap, size_t bitmap_len,
+                   uint64_t *out, size_t out_len);
+
+/* The number of 1 bits of a bitmap. Refusals: 2, 9. */
+uint32_t mtb_total(uint32_t w, uint32_t h,
+                   const uint64_t *bitmap, size_t bitmap_len,
+                   uint32_t *total);
+
+/*
+ * The difference count of two frames with the second moved by (dx, dy): the number of pixels (x, y) of
+ * the first whose partner (x - dx, y - dy) lies in the second, with both exclusion bits 1 and the
+ * threshold bits unequal. Refusals: 2, 9.
+ */
+uint32_t mtb_difference(uint32_t w, uint32_t h, int32_t dx, int32_t dy,
+                        const uint64_t *threshold1, size_t threshold1_len,
+                        const uint64_t *exclusion1, size_t exclusion1_len,
+                        const uint64_t *threshold2, size_t threshold2_len,
+                        const uint64_t *exclusion2, size_t exclusion2_len,
+                        uint32_t *count);
+
+/* ---- Alignment ---- */
+
+/*
+ * The offset (*dx, *dy) that moves the second raster onto the first, and the difference counts that
+ * led to it. counts: 9*(s+1) numbers, nine a level, the coarsest level first. A level's nine are those
+ * of the moves (cx + i, cy + j), i from -1 to 1 and within each i j from -1 to 1; the first with the
+ * least count is the level's answer. (cx, cy) is twice the answer of the level before, at first (0, 0).
+ * grey, words: work memory, as long as mtb_grey_needed and mtb_words_needed tell, or longer; what it
+ * holds afterwards means nothing. Refusals: 2, 3, 4, 5, 8, 9, 10, 11.
+ */
+uint32_t mtb_pair(uint32_t w, uint32_t h, uint32_t s, uint32_t tolerance, uint32_t percentile,
+                  const uint8_t *first, size_t first_len,
+                  const uint8_t *second, size_t second_len,
+                  int32_t *dx, int32_t *dy,
+                  uint32_t *counts, size_t counts_len,
+                  uint8_t *grey, size_t grey_len,
+                  uint64_t *words, size_t words_len);
+
+/*
+ * A series of n frames, 1 to 16, aligned pair by pair: frames 0 and 1 with percentiles[0], frames 1
+ * and 2 with percentiles[1], and so on. r is the frame that all offsets refer to, 0 to n-1.
+ * percentiles: n-1 numbers. rasters: n*3*w*h bytes, one raster after another.
+ * offsets: 2*n numbers, dx and dy of each frame: the move that brings it onto frame r, by the sum over
+ * the pairs between; (0, 0) for frame r itself. counts: 9*(s+1)*(n-1) numbers, those of each pair as
+ * mtb_pair tells them. grey, words: as for mtb_pair. Refusals: 2 to 11.
+ */
+uint32_t mtb_series(uint32_t w, uint32_t h, uint32_t s, uint32_t tolerance, uint32_t n, uint32_t r,
+                    const uint32_t *percentiles, size_t percentiles_len,
+                    const uint8_t *rasters, size_t rasters_len,
+                    int32_t *offsets, size_t offsets_len,
+                    uint32_t *counts, size_t counts_len,
+                    uint8_t *grey, size_t grey_len,
+                    uint64_t *words, size_t words_len);
+
+/*
+ * The work memory of mtb_pair and mtb_series. Bytes of grey: twice the pixels of all levels. Words of
+ * 64 bits: 6*W*h. For 1920 by 1080 and s = 6 that is 5529000 bytes and 194400 words.
+ * These two return 0 where refusal 2, 3 or 4 applies to w, h and s.
+ */
+size_t mtb_grey_needed(uint32_t w, uint32_t h, uint32_t s);
+size_t mtb_words_needed(uint32_t w, uint32_t h, uint32_t s);
+
+/* ---- P6 files (Netpbm's ppm) ---- */
+
+/*
+ * The width and height of the frame that a file holds. A file is "P6", whitespace, width, whitespace,
+ * height, whitespace, 255, one byte of whitespace, raster, and nothing more. Whitespace is one or more
+ * of the bytes 9, 10, 13 and 32; a number has one to nine digits. Refusals: 1, 2, 9.
+ */
+uint32_t mtb_p6_size(const uint8_t *file, size_t file_len, uint32_t *w, uint32_t *h);
+
+/* Where the raster of a file is: *length bytes from file + *start on. Refusals: 1, 2, 9. */
+uint32_t mtb_p6_raster(const uint8_t *file, size_t file_len, size_t *start, size_t *length);
+
+/*
+ * A raster written as a file; *written is the number of its bytes: 3*w*h and a header of 11 to 17.
+ * Refusals: 2, 9, 10.
+ */
+uint32_t mtb_p6_write(uint32_t w, uint32_t h,
+                      const uint8_t *raster, size_t raster_len,
+                      uint8_t *out, size_t out_len,
+                      size_t *written);
+
+/* ---- Views of an aligned series ---- */
+
+/*
+ * What n frames, 1 to 16, have in common once each is moved by its offset: columns from *left up to,
+ * not including, *right, rows from *top up to, not including, *bottom, as the frame that is not moved
+ * counts them. offsets: 2*n numbers, as mtb_series writes them. Refusals: 2, 6, 9, 12, 13.
+ */
+uint32_t mtb_common_area(uint32_t w, uint32_t h, uint32_t n,
+                         const int32_t *offsets, size_t offsets_len,
+                         uint32_t *left, uint32_t *right, uint32_t *top, uint32_t *bottom);
+
+/*
+ * A raster moved by (dx, dy), with 0, 0, 0 where nothing comes from inside. out: 3*w*h bytes.
+ * Refusals: 2, 9, 10.
+ */
+uint32_t mtb_moved(uint32_t w, uint32_t h, int32_t dx, int32_t dy,
+                   const uint8_t *raster, size_t raster_len,
+                   uint8_t *out, size_t out_len);
+
+/*
+ * Where row y is in the second of two rasters, or in the first where second is false, for a display
+ * that shows them in turn: *length bytes from *start on, counted in the chosen raster. Both rasters'
+ * lengths are tested. Refusals: 2, 9, 14.
+ */
+uint32_t mtb_blink_row(uint32_t w, uint32_t h, uint32_t y, bool second,
+                       const uint8_t *first_raster, size_t first_len,
+                       const uint8_t *second_raster, size_t second_len,
+                       size_t *start, size_t *length);
+
+#ifdef __cplusplus
+}
+#endif
+
+#endif
