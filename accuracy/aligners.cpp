@@ -3,20 +3,7 @@
 #include <cstdio>
 #include <cstdlib>
 
-#if __has_include("mtb.h")
-extern "C" {
 #include "mtb.h"
-}
-#else
-extern "C" {
-uint32_t mtb_pair(uint32_t w, uint32_t h, uint32_t s, uint32_t tolerance, uint32_t percentile,
-                  const uint8_t *first, size_t first_len, const uint8_t *second, size_t second_len,
-                  int32_t *dx, int32_t *dy, uint32_t *counts, size_t counts_len,
-                  uint8_t *grey, size_t grey_len, uint64_t *words, size_t words_len);
-size_t mtb_grey_needed(uint32_t w, uint32_t h, uint32_t s);
-size_t mtb_words_needed(uint32_t w, uint32_t h, uint32_t s);
-}
-#endif
 
 #ifdef WITH_OPENCV
 #include <opencv2/core.hpp>

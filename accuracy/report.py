@@ -11,7 +11,7 @@ import sys
 import zlib
 
 DEFAULT_SEED = "1"
-DETAILED = ("leaves", "terrain")
+DETAILED = ("leaves", "soft hills")
 SKY = ("nebula", "nebula with stars", "dense stars", "sparse stars")
 STARS = SKY[1:]
 HAZE = "flat haze"
@@ -142,8 +142,8 @@ class Report:
         cuts = [(9, 10, "nine tenths"), (3, 4, "three quarters"), (1, 2, "half")]
         self.parts["rule cuts"] = markdown(["at most", *head], [
             [name, *self.told(self.trials, lambda t: clear(t, a, b))] for a, b, name in cuts])
-        calls, right, near, far, missed, caught = total
-        self.parts["rule calls"] = calls
+        _, right, near, far, missed, caught = total
+        self.parts["rule clear"] = right + near + far
         self.parts["rule right"] = f"{100 * right / (right + near + far):.1f}"
         self.parts["rule near"] = f"{100 * (right + near) / (right + near + far):.1f}"
         self.parts["rule found"] = f"{100 * right / (right + missed):.0f}"
@@ -205,7 +205,7 @@ class Report:
         right, wrong = (lambda t: t.ours == t.truth), (lambda t: off(t.ours, t.truth) > 1)
         common = lambda t: t.w == 640 and t.P == 50 and t.s == 3
         self.example("example clear", lambda t: common(t) and t[1:6] == ("leaves", "under, over", 2, 3, 1) and right(t))
-        self.example("example tie", lambda t: common(t) and t[1:6] == ("terrain", "same", 0, 3, 8) and not right(t))
+        self.example("example tie", lambda t: common(t) and t[1:6] == ("soft hills", "same", 0, 3, 8) and not right(t))
         self.example("example level", lambda t: common(t) and t[1:6] == ("sparse stars", "gamma 2.2", 4, 3, 0) and wrong(t))
         self.example("example haze", lambda t: common(t) and t.scene == HAZE and t.noise == 0)
 

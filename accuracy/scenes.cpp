@@ -81,7 +81,7 @@ Scene leaves(int w, int h, Random &random)
     return scene;
 }
 
-Scene terrain(int w, int h, Random &random)
+Scene hills(int w, int h, Random &random)
 {
     Scene scene(w, h, 0);
     for (int cell = 256; cell >= 2; cell /= 2)
@@ -164,7 +164,7 @@ double both_ends(double v) { return 128 + 3 * (v - 128); }
 
 const std::vector<SceneKind> scene_kinds = {
     {"leaves", leaves},
-    {"terrain", terrain},
+    {"soft hills", hills},
     {"nebula", nebula},
     {"nebula with stars", nebula_with_stars},
     {"dense stars", dense_stars},
