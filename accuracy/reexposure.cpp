@@ -94,10 +94,12 @@ void compare(const std::string &scene, int noise, const Pair &pair, const std::v
                 Settings settings = {w, h, s, tolerance, percentile};
                 Answer ours = library_pair(settings, pair.first, pair.second);
                 Answer again = library_pair(settings, after.first, after.second);
-                bool theirs = opencv_pair(settings, pair.first, pair.second) == opencv_pair(settings, after.first, after.second);
-                std::printf("reexposed\t%s\t%s\t%d\t%d\t%d\t%d\t%d\t%d\t%d\t%d\t%d\n", scene.c_str(), reexposure.name.c_str(),
-                            reexposure.merges, noise, tolerance, percentile, ours == again, ours.offset == again.offset,
-                            ours.offset == pair.truth, again.offset == pair.truth, theirs);
+                Move theirs = opencv_pair(settings, pair.first, pair.second);
+                Move theirs_again = opencv_pair(settings, after.first, after.second);
+                std::printf("reexposed\t%s\t%s\t%d\t%d\t%d\t%d\t%d\t%d\t%d\t%d\t%d\n", scene.c_str(),
+                            reexposure.name.c_str(), reexposure.merges, noise, tolerance, percentile, ours == again,
+                            ours.offset == again.offset, ours.offset == pair.truth, again.offset == pair.truth,
+                            theirs == theirs_again);
             }
     }
 }

@@ -44,9 +44,12 @@ def off(found, truth):
     return max(abs(found[0] - truth[0]), abs(found[1] - truth[1]))
 
 
-def corner(trial):
-    reach = 2 ** (trial.s + 1) - 1
-    return (-reach, -reach)
+def reach(trial):
+    return 2 ** (trial.s + 1) - 1
+
+
+def at_rim(trial):
+    return reach(trial) in map(abs, trial.ours)
 
 
 def clear(trial, numerator=3, denominator=4):
@@ -106,7 +109,7 @@ class Report:
     def tones(self):
         some = [t for t in self.trials if t.P == 50 and 2 <= t.s <= 4 and t.scene != HAZE]
         for name, T in (("tones", 0), ("tones 4", 4)):
-            self.hits(name, [t for t in some if t.T == T], lambda t: t.tone, lambda t: t.scene, "second frame")
+            self.hits(name, [t for t in some if t.T == T], lambda t: t.tone, lambda t: t.scene, "tone")
 
     def noises(self):
         trials = [t for t in self.trials if t.P == 50 and 2 <= t.s <= 4 and t.scene != HAZE]
@@ -118,13 +121,13 @@ class Report:
         stars = [t for t in self.trials if t.T == 0 and t.w == 640 and t.scene in STARS]
         self.hits("stars", stars, lambda t: f"{t.scene}, P = {t.P}", lambda t: t.s, "scene", "s = {}", self.ours)
         for name, scenes in (("percentiles detailed", DETAILED), ("percentiles sky", SKY)):
-            self.hits(name, [t for t in trials if t.scene in scenes], lambda t: t.tone, lambda t: t.P, "second frame",
-                      "P = {}", self.ours)
+            self.hits(name, [t for t in trials if t.scene in scenes], lambda t: t.tone, lambda t: t.P, "tone", "P = {}",
+                      self.ours)
 
     def haze(self):
         trials = [t for t in self.trials if t.scene == HAZE and t.P == 50]
         self.hits("haze", trials, lambda t: f"noise {t.noise}", lambda t: t.T, "flat haze", "T = {}",
-                  lambda group: sum(t.ours == corner(t) for t in group))
+                  lambda group: sum(t.ours == (-reach(t), -reach(t)) for t in group))
 
     @staticmethod
     def told(trials, rule=clear):
@@ -147,15 +150,19 @@ class Report:
         self.parts["rule right"] = f"{100 * right / (right + near + far):.1f}"
         self.parts["rule near"] = f"{100 * (right + near) / (right + near + far):.1f}"
         self.parts["rule found"] = f"{100 * right / (right + missed):.0f}"
+        self.parts["rule told"] = f"{100 * (right + caught) / len(self.trials):.0f}"
         self.parts["rule caught"] = f"{100 * caught / (caught + near + far):.1f}"
 
     def hopeless(self):
         """Pairs without a right answer, and how many of them have clear rows all the same."""
         rows = []
         for scene in values(self.beyond, lambda t: t.scene):
-            groups = [[t for t in trials if t.scene == scene] for trials in (self.beyond, self.unrelated)]
-            rows.append([scene, len(groups[0]), *(sum(map(clear, group)) for group in groups)])
-        self.parts["hopeless"] = markdown(["scene", "pairs of each", "out of reach, yet clear", "another scene, yet clear"], rows)
+            beyond, unrelated = ([t for t in trials if t.scene == scene] for trials in (self.beyond, self.unrelated))
+            yet_clear = [t for t in beyond if clear(t)]
+            rows.append([scene, len(beyond), len(yet_clear), sum(not at_rim(t) for t in yet_clear),
+                         sum(map(clear, unrelated))])
+        head = ["scene", "pairs of each", "out of reach, yet clear", "and not at the rim", "another scene, yet clear"]
+        self.parts["hopeless"] = markdown(head, rows)
 
     def asking_again(self):
         """The first of P = 50, 17, 83 whose rows are clear, at T = 0."""
@@ -197,17 +204,18 @@ class Report:
             return
         lines = [f"offset {trial.ours[0]} {trial.ours[1]}"]
         lines += [f"{trial.s - k}: {' '.join(map(str, row))}" for k, row in enumerate(trial.levels)]
-        title = (f"{trial.scene}, second frame {trial.tone}, noise {trial.noise}; s = {trial.s}, T = {trial.T}, P = {trial.P}; "
-                 f"true offset {trial.truth[0]} {trial.truth[1]}")
-        self.parts[name] = "\n".join([f"*{title}*", "```", *lines, "```"])
+        title = (f"{trial.scene}, tone *{trial.tone}*, noise {trial.noise}; s = {trial.s}, T = {trial.T}, P = {trial.P}; "
+                 f"true offset {trial.truth[0]} {trial.truth[1]}:")
+        self.parts[name] = "\n".join([title[0].upper() + title[1:], "```", *lines, "```"])
 
     def examples(self):
-        right, wrong = (lambda t: t.ours == t.truth), (lambda t: off(t.ours, t.truth) > 1)
-        common = lambda t: t.w == 640 and t.P == 50 and t.s == 3
-        self.example("example clear", lambda t: common(t) and t[1:6] == ("leaves", "under, over", 2, 3, 1) and right(t))
-        self.example("example tie", lambda t: common(t) and t[1:6] == ("soft hills", "same", 0, 3, 8) and not right(t))
-        self.example("example level", lambda t: common(t) and t[1:6] == ("sparse stars", "gamma 2.2", 4, 3, 0) and wrong(t))
-        self.example("example haze", lambda t: common(t) and t.scene == HAZE and t.noise == 0)
+        def wanted(scene, tone, noise, T, right):
+            return lambda t: (t[:7] == (640, scene, tone or t.tone, noise, 3, T, 50) and (t.ours == t.truth) == right
+                              and clear(t) == right and (right or off(t.ours, t.truth) > 1))
+        self.example("example clear", wanted("leaves", "under, over", 2, 1, True))
+        self.example("example tie", wanted("soft hills", "same", 0, 8, False))
+        self.example("example level", wanted("sparse stars", None, 2, 0, False))
+        self.example("example haze", wanted(HAZE, "same", 0, 0, False))
 
     def all(self):
         self.parts["opencv"] = self.opencv or "(not installed for this run)"
