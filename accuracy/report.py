@@ -15,7 +15,6 @@ DETAILED = ("leaves", "soft hills")
 SKY = ("nebula", "nebula with stars", "dense stars", "sparse stars")
 STARS = SKY[1:]
 HAZE = "flat haze"
-PERCENTILES = (17, 50, 83)
 CALLS_A_PAIR = 15  # five tolerances, three percentiles
 
 Trial = collections.namedtuple("Trial", "w scene tone noise s T P truth ours theirs levels")
