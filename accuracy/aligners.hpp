@@ -1,0 +1,32 @@
+// The two aligners that are measured: the library, and OpenCV's AlignMTB where it is installed.
+#pragma once
+
+#include <cstdint>
+#include <vector>
+
+#include "scenes.hpp"
+
+struct Move {
+    int dx, dy;
+    bool operator==(const Move &other) const { return dx == other.dx && dy == other.dy; }
+};
+
+struct Settings {
+    int w, h;
+    int s, tolerance, percentile;
+};
+
+// What the library writes for a pair: the offset, and nine counts a level, coarsest first.
+struct Answer {
+    Move offset;
+    std::vector<uint32_t> counts;
+    bool operator==(const Answer &other) const { return offset == other.offset && counts == other.counts; }
+};
+
+// Ends the program with a message when the library refuses: every pair here is meant to be accepted.
+Answer library_pair(const Settings &settings, const Raster &first, const Raster &second);
+
+// Null when the program was built without OpenCV.
+const char *opencv_version();
+// The same frames' grey values, max_bits = s + 1, exclude_range = tolerance. The percentile is always the median.
+Move opencv_pair(const Settings &settings, const Raster &first, const Raster &second);
