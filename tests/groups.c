@@ -1,0 +1,117 @@
+#include "groups.h"
+
+#include <stdio.h>
+#include <stdlib.h>
+
+uint8_t noise[NOISE_BYTES], ties[NOISE_BYTES];
+uint64_t noise_words[NOISE_WORDS];
+
+void must(bool holds, const char *what)
+{
+    if (!holds) {
+        fprintf(stderr, "make_vectors: must hold: %s\n", what);
+        exit(1);
+    }
+}
+
+void make_noise(uint64_t seed, const char *name)
+{
+    random_begin(seed, name);
+    random_bytes(noise, sizeof noise);
+    random_bytes(ties, sizeof ties);
+    for (int i = 0; i < NOISE_BYTES; i++)
+        ties[i] %= 4;
+    for (int i = 0; i < NOISE_WORDS; i++)
+        noise_words[i] = random_bits();
+}
+
+uint32_t one_of(const uint32_t *numbers, int count)
+{
+    return numbers[random_below((uint32_t)count)];
+}
+
+/* ---- Moves ---- */
+
+int32_t side_move(uint32_t side, int which)
+{
+    int32_t w = (int32_t)side;
+    const int32_t moves[MOVES] = { 0,  1,     -1,     2,      -2, 63, -63, 64,       -64,           65,       -65,
+                                   w,  w - 1, -w,     1 - w,  w + 1, -w - 1, w + 64, INT32_MAX, INT32_MIN, INT32_MIN + 1 };
+    return moves[which];
+}
+
+/* ---- Breakers ---- */
+
+void break_size(struct vector *v)
+{
+    static const uint32_t bad[] = { 0, 4097, 65536, 0x7FFFFFFF, 0xFFFFFFFF };
+    uint32_t side = one_of(bad, COUNT_OF(bad));
+    uint32_t which = random_below(3);
+    if (which != 0)
+        v->w = side;
+    if (which != 1)
+        v->h = side;
+}
+
+void break_tolerance(struct vector *v)
+{
+    static const uint32_t bad[] = { 65, 66, 128, 256, 256 + 64, 65536, 0xFFFFFFFF };
+    v->tolerance = one_of(bad, COUNT_OF(bad));
+}
+
+void break_percentile(struct vector *v)
+{
+    static const uint32_t bad[] = { 0, 1, 16, 18, 49, 51, 82, 84, 99, 100, 256 + 50, 65536 + 17, 0x80000053, 0xFFFFFFFF };
+    v->percentile = one_of(bad, COUNT_OF(bad));
+}
+
+/* Lengths one off, and an empty slice. */
+void break_input(struct vector *v)
+{
+    uint32_t inputs = v->call == CALL_DIFFERENCE ? 4 : v->call == CALL_PAIR || v->call == CALL_BLINK ? 2 : 1;
+    struct slice *slice = &v->in[v->call == CALL_SERIES ? 1 : random_below(inputs)];
+    uint32_t which = random_below(5);
+    if (which > 2 || slice->length == 0)
+        slice->length += 1;
+    else if (which > 0)
+        slice->length -= 1;
+    else
+        slice->length = 0;
+}
+
+void break_output(struct vector *v)
+{
+    bool two = v->call == CALL_BITMAPS || v->call == CALL_SERIES;
+    size_t *length = &v->out[two ? random_below(2) : 0];
+    *length = *length > 0 && random_below(4) ? *length - 1 : 0;
+}
+
+/* ---- Refusals in every order ---- */
+
+static uint32_t lowest_number(const struct breaker *breakers, int count, int mask)
+{
+    uint32_t lowest = 0;
+    for (int i = count - 1; i >= 0; i--)
+        if (mask >> i & 1)
+            lowest = breakers[i].number;
+    return lowest;
+}
+
+static void apply_breakers(struct vector *v, const struct breaker *breakers, int count, int mask, bool after)
+{
+    for (int i = 0; i < count; i++)
+        if ((mask >> i & 1) && breakers[i].after == after)
+            breakers[i].apply(v);
+}
+
+void add_subsets(struct vector good, const struct breaker *breakers, int count, int rounds)
+{
+    for (int mask = 0; mask < 1 << count; mask++)
+        for (int round = 0; round < rounds; round++) {
+            struct vector v = good;
+            apply_breakers(&v, breakers, count, mask, false);
+            fit_lengths(&v);
+            apply_breakers(&v, breakers, count, mask, true);
+            must(add(&v) == lowest_number(breakers, count, mask), "the lowest number that applies is given");
+        }
+}

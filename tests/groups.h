@@ -1,0 +1,54 @@
+/* The groups of test vectors, a function a data file, and what they share. */
+#ifndef GROUPS_H
+#define GROUPS_H
+
+#include "scenes.h"
+#include "vectors.h"
+
+#define COUNT_OF(array) ((int)(sizeof(array) / sizeof((array)[0])))
+
+/* Files: each begins and ends its own, in the directory. */
+void frame_file(uint64_t seed, const char *directory);
+void bitmap_file(uint64_t seed, const char *directory);
+void pair_file(uint64_t seed, const char *directory);
+void series_file(uint64_t seed, const char *directory);
+void made_file(const char *directory);
+void example_file(const char *directory);
+void p6_file(uint64_t seed, const char *directory);
+void view_file(uint64_t seed, const char *directory);
+void bracket_file(uint64_t seed, const char *directory);
+
+/* Random inputs that many records share: any bytes, bytes below 4 (many ties), words. */
+enum { NOISE_BYTES = 16384, NOISE_WORDS = 1024 };
+extern uint8_t noise[NOISE_BYTES], ties[NOISE_BYTES];
+extern uint64_t noise_words[NOISE_WORDS];
+void make_noise(uint64_t seed, const char *name);
+
+/* A way to make a refusal number apply: to sizes and settings, or, after these have given the lengths, to slices. */
+struct breaker {
+    uint32_t number;
+    bool after;
+    void (*apply)(struct vector *);
+};
+
+/* Every subset of the breakers, each some times: refusals in every order. The lowest number must be the reference's answer. */
+void add_subsets(struct vector good, const struct breaker *breakers, int count, int rounds);
+
+/* Breakers that several calls share. */
+void break_size(struct vector *v);
+void break_tolerance(struct vector *v);
+void break_percentile(struct vector *v);
+void break_input(struct vector *v);
+void break_output(struct vector *v);
+
+/* One of these numbers, at random. */
+uint32_t one_of(const uint32_t *numbers, int count);
+
+/* Moves around a side: none, one, a word, the whole side, the extremes of 32 bits. */
+enum { MOVES = 21 };
+int32_t side_move(uint32_t side, int which);
+
+/* Ends the run when something that must hold does not. */
+void must(bool holds, const char *what);
+
+#endif

@@ -1,0 +1,462 @@
+/* Pairs and series: stored scenes, made frames, re-exposed brackets, and document 01's worked examples. */
+#include "groups.h"
+
+#include <stdlib.h>
+#include <string.h>
+
+static const uint32_t all_percentiles[] = { 17, 50, 83 };
+
+/* ---- Rasters ---- */
+
+enum { MOST_FRAMES = 16 };
+
+/* Frames of one scene, each moved and exposed otherwise, one raster after another. */
+static uint8_t *bracket_of(uint32_t w, uint32_t h, uint32_t n, int32_t reach)
+{
+    size_t size = (size_t)3 * w * h;
+    uint8_t *rasters = malloc(n * size + 1);
+    struct scene scene = random_scene(w, h);
+    for (uint32_t k = 0; k < n; k++) {
+        struct exposure by = { random_between(-reach, reach), random_between(-reach, reach), random_between(40, 90),
+                               random_between(-20, 20), (int32_t)random_below(3) };
+        expose(&scene, by, w, h, rasters + k * size);
+    }
+    rasters[n * size] = 0; /* one byte more, for a slice that is too long */
+    return rasters;
+}
+
+/* ---- Pair ---- */
+
+static struct vector pair_vector(uint32_t w, uint32_t h, uint32_t s, const uint8_t *first, const uint8_t *second)
+{
+    struct vector v = { .call = CALL_PAIR, .w = w, .h = h, .s = s, .percentile = 50, .in = { { first, 0 }, { second, 0 } } };
+    fit_lengths(&v);
+    return v;
+}
+
+static struct vector bracket_pair(uint32_t w, uint32_t h, uint32_t s, const uint8_t *rasters)
+{
+    return pair_vector(w, h, s, rasters, rasters + (size_t)3 * w * h);
+}
+
+/* Sizes odd and even, at the least side for s and above it, widths around multiples of 64. */
+static void pair_sizes(void)
+{
+    static const uint32_t sizes[][3] = { { 4, 4, 0 },   { 5, 7, 0 },    { 1, 1, 0 },   { 64, 5, 0 },   { 8, 8, 1 },
+                                         { 9, 13, 1 },  { 65, 8, 1 },   { 16, 16, 2 }, { 17, 19, 2 },  { 31, 16, 2 },
+                                         { 63, 17, 2 }, { 128, 16, 2 }, { 32, 32, 3 }, { 33, 40, 3 },  { 127, 17, 2 },
+                                         { 129, 16, 2 }, { 64, 64, 4 }, { 65, 67, 4 } };
+    begin_group("pair: sizes and halvings");
+    for (int i = 0; i < COUNT_OF(sizes); i++) {
+        uint32_t w = sizes[i][0], h = sizes[i][1], s = sizes[i][2];
+        uint8_t *rasters = bracket_of(w, h, 2, 1 << s);
+        for (int p = 0; p < 3; p++)
+            for (uint32_t t = 0; t < 2; t++) {
+                struct vector v = bracket_pair(w, h, s, rasters);
+                v.percentile = all_percentiles[p];
+                v.tolerance = t ? random_below(12) : 0;
+                add(&v);
+            }
+        free(rasters);
+    }
+}
+
+static void pair_settings(void)
+{
+    static const uint32_t tolerances[] = { 0, 1, 2, 3, 4, 8, 16, 32, 63, 64, 65, 66, 256, 256 + 4, 0xFFFFFFFF };
+    static const uint32_t percentiles[] = { 17, 50, 83, 0, 16, 18, 49, 51, 82, 84, 100, 256 + 50, 65536 + 17, 0xFFFFFFFF };
+    begin_group("pair: tolerances and percentiles");
+    uint8_t *rasters = bracket_of(37, 33, 2, 4);
+    for (int t = 0; t < COUNT_OF(tolerances); t++)
+        for (int p = 0; p < COUNT_OF(percentiles); p++) {
+            struct vector v = bracket_pair(37, 33, 2, rasters);
+            v.tolerance = tolerances[t];
+            v.percentile = percentiles[p];
+            add(&v);
+        }
+    for (uint32_t s = 0; s <= 10; s++) {
+        struct vector v = bracket_pair(37, 33, s, rasters);
+        add(&v);
+    }
+    free(rasters);
+}
+
+/* Output and work memory just short, just enough, and longer. */
+static void pair_lengths(void)
+{
+    begin_group("pair: lent lengths");
+    uint8_t *rasters = bracket_of(66, 17, 2, 2);
+    for (int counts = -1; counts <= 1; counts++)
+        for (int grey = -1; grey <= 1; grey++)
+            for (int words = -1; words <= 1; words++) {
+                struct vector v = bracket_pair(66, 17, 2, rasters);
+                v.out[0] = (size_t)((int)v.out[0] + counts * (counts > 0 ? 40 : 1));
+                v.grey = (size_t)((int)v.grey + grey * (grey > 0 ? 99 : 1));
+                v.words = (size_t)((int)v.words + words * (words > 0 ? 7 : 1));
+                add(&v);
+            }
+    free(rasters);
+}
+
+static void break_halvings(struct vector *v)
+{
+    static const uint32_t bad[] = { 9, 10, 31, 32, 64, 256, 0xFFFFFFFF };
+    v->s = one_of(bad, COUNT_OF(bad));
+}
+
+/* A side one below the least for s = 1; where the size is refused already, a side that is good. */
+static void break_least_side(struct vector *v)
+{
+    bool width = 0 < v->w && v->w <= 4096, height = 0 < v->h && v->h <= 4096;
+    uint32_t which = random_below(3);
+    if (width && (which != 0 || !height))
+        v->w = 7;
+    if (height && (which != 1 || !width))
+        v->h = 7;
+}
+
+static void break_memory(struct vector *v)
+{
+    uint32_t which = random_below(4);
+    if (which == 0)
+        v->grey = v->words = 0;
+    if (which == 1 || which == 3)
+        v->grey -= 1;
+    if (which == 2 || which == 3)
+        v->words -= 1;
+}
+
+static void pair_refusals(void)
+{
+    static const struct breaker breakers[] = {
+        { 2, false, break_size },       { 3, false, break_halvings }, { 4, false, break_least_side },
+        { 5, false, break_tolerance },  { 8, false, break_percentile }, { 9, true, break_input },
+        { 10, true, break_output },     { 11, true, break_memory },
+    };
+    begin_group("pair: refusals");
+    add_subsets(pair_vector(8, 9, 1, noise, noise + 300), breakers, COUNT_OF(breakers), 1);
+}
+
+/* The reference must give a re-exposed bracket the very answer of the bracket. */
+static void must_agree(const struct vector *v, const struct vector *other)
+{
+    struct answer a = answer_of(v), b = answer_of(other);
+    must(a.refusal == 0 && b.refusal == 0, "a re-exposed bracket is accepted too");
+    must(memcmp(a.values, b.values, sizeof a.values) == 0, "a re-exposed bracket has the same offset");
+    for (int i = 0; i < 2; i++)
+        must(!a.out[i] || memcmp(a.out[i], b.out[i], a.out_bytes[i]) == 0, "a re-exposed bracket has the same numbers");
+    free_answer(a);
+    free_answer(b);
+}
+
+/* n frames of R = G = B with few values, and the same frames re-exposed, each by its own curve. */
+static void make_re_exposed(uint32_t w, uint32_t h, uint32_t n, uint32_t values, uint8_t *rasters, uint8_t *others)
+{
+    struct scene scene = random_scene(w, h);
+    for (uint32_t k = 0; k < n; k++) {
+        struct exposure by = { random_between(-3, 3), random_between(-3, 3), random_between(40, 90), 0, 2 };
+        uint8_t curve[256];
+        size_t at = (size_t)k * 3 * w * h;
+        expose_grey(&scene, by, w, h, values, rasters + at);
+        random_curve(values, curve);
+        re_expose(rasters + at, (size_t)w * h, curve, others + at);
+    }
+}
+
+static void pair_re_exposed(void)
+{
+    static const uint32_t sizes[][3] = { { 9, 8, 0 }, { 13, 8, 1 }, { 16, 17, 2 }, { 21, 18, 2 }, { 70, 9, 1 } };
+    static uint8_t rasters[2 * 3 * 700], others[2 * 3 * 700];
+    begin_group("pair: re-exposed, T = 0");
+    for (int i = 0; i < COUNT_OF(sizes); i++)
+        for (uint32_t values = 3; values <= 200; values *= 8) {
+            uint32_t w = sizes[i][0], h = sizes[i][1], s = sizes[i][2];
+            make_re_exposed(w, h, 2, values, rasters, others);
+            struct vector v = bracket_pair(w, h, s, rasters), other = bracket_pair(w, h, s, others);
+            v.percentile = other.percentile = one_of(all_percentiles, 3);
+            must_agree(&v, &other);
+            add(&v);
+            add(&other);
+        }
+}
+
+void pair_file(uint64_t seed, const char *directory)
+{
+    begin_file();
+    make_noise(seed, "pairs");
+    keep_bytes(noise, 1000);
+    pair_sizes();
+    pair_settings();
+    pair_lengths();
+    pair_refusals();
+    pair_re_exposed();
+    end_file(directory, "pairs.bin");
+}
+
+/* ---- Series ---- */
+
+static struct vector series_vector(uint32_t w, uint32_t h, uint32_t s, uint32_t n, uint32_t r, const uint32_t *percentiles,
+                                   const uint8_t *rasters)
+{
+    struct vector v = { .call = CALL_SERIES, .w = w, .h = h, .s = s, .n = n, .r = r,
+                        .in = { { percentiles, 0 }, { rasters, 0 } } };
+    fit_lengths(&v);
+    return v;
+}
+
+static void random_percentiles(uint32_t percentiles[MOST_FRAMES])
+{
+    for (int i = 0; i < MOST_FRAMES; i++)
+        percentiles[i] = one_of(all_percentiles, 3);
+}
+
+/* A series with every reference, and one beyond. */
+static void add_references(uint32_t w, uint32_t h, uint32_t s, uint32_t n, uint32_t tolerance)
+{
+    uint32_t percentiles[MOST_FRAMES];
+    random_percentiles(percentiles);
+    uint8_t *rasters = bracket_of(w, h, n, 1 + (int32_t)s);
+    for (uint32_t r = 0; r <= n; r++) {
+        struct vector v = series_vector(w, h, s, n, r, percentiles, rasters);
+        v.tolerance = tolerance;
+        v.out[r % 2] += random_below(5);
+        add(&v);
+    }
+    free(rasters);
+}
+
+static void series_frames(void)
+{
+    begin_group("series: N of 1, 2, 3, 5 and 16, every reference");
+    add_references(16, 17, 2, 1, 0);
+    add_references(64, 9, 1, 2, 0);
+    add_references(33, 32, 3, 2, 4);
+    add_references(20, 19, 2, 3, 0);
+    add_references(65, 16, 2, 3, 3);
+    add_references(7, 6, 0, 5, 1);
+    add_references(16, 16, 2, 16, 0);
+    add_references(9, 11, 1, 16, 2);
+}
+
+static void break_frames(struct vector *v)
+{
+    static const uint32_t bad[] = { 0, 17, 18, 256, 65536, 0xFFFFFFFF };
+    v->n = one_of(bad, COUNT_OF(bad));
+}
+
+static void break_reference(struct vector *v)
+{
+    uint32_t bad[] = { v->n, v->n + 1, 16, 0xFFFFFFFF };
+    v->r = one_of(bad, COUNT_OF(bad));
+}
+
+/* A wrong number of percentiles, or a wrong one at some place. */
+static void break_percentiles(struct vector *v)
+{
+    static const uint32_t wrong[3][16] = {
+        { 49, 50, 50, 50, 50, 50, 50, 50, 50, 50, 50, 50, 50, 50, 50, 50 },
+        { 17, 84, 50, 50, 50, 50, 50, 50, 50, 50, 50, 50, 50, 50, 50, 50 },
+        { 50, 256 + 50, 50, 50, 50, 50, 50, 50, 50, 50, 50, 50, 50, 50, 50, 50 },
+    };
+    uint32_t which = random_below(5);
+    if (which < 3)
+        v->in[0].data = wrong[which];
+    else if (which == 3 || v->in[0].length == 0)
+        v->in[0].length += 1;
+    else
+        v->in[0].length -= 1;
+}
+
+static void series_refusals(void)
+{
+    static const uint32_t percentiles[18] = { 17, 50, 83, 17, 50, 83, 17, 50, 83, 17, 50, 83, 17, 50, 83, 17, 50, 83 };
+    static const struct breaker breakers[] = {
+        { 2, false, break_size },      { 3, false, break_halvings },   { 4, false, break_least_side },
+        { 5, false, break_tolerance }, { 6, false, break_frames },     { 7, false, break_reference },
+        { 8, true, break_percentiles }, { 9, true, break_input },      { 10, true, break_output },
+        { 11, true, break_memory },
+    };
+    begin_group("series: refusals");
+    add_subsets(series_vector(8, 9, 1, 3, 1, percentiles, noise), breakers, COUNT_OF(breakers), 1);
+}
+
+static void series_re_exposed(void)
+{
+    static const uint32_t shapes[][4] = { { 9, 8, 1, 3 }, { 17, 16, 2, 4 }, { 66, 8, 1, 2 }, { 6, 5, 0, 16 } };
+    static uint8_t rasters[16 * 3 * 300], others[16 * 3 * 300];
+    uint32_t percentiles[MOST_FRAMES];
+    begin_group("series: re-exposed, T = 0");
+    for (int i = 0; i < COUNT_OF(shapes); i++)
+        for (uint32_t values = 4; values <= 200; values *= 7) {
+            uint32_t w = shapes[i][0], h = shapes[i][1], s = shapes[i][2], n = shapes[i][3], r = random_below(n);
+            make_re_exposed(w, h, n, values, rasters, others);
+            random_percentiles(percentiles);
+            struct vector v = series_vector(w, h, s, n, r, percentiles, rasters);
+            struct vector other = series_vector(w, h, s, n, r, percentiles, others);
+            must_agree(&v, &other);
+            add(&v);
+            add(&other);
+        }
+}
+
+void series_file(uint64_t seed, const char *directory)
+{
+    begin_file();
+    make_noise(seed, "series");
+    keep_bytes(noise, 4000);
+    series_frames();
+    series_refusals();
+    series_re_exposed();
+    end_file(directory, "series.bin");
+}
+
+/* ---- Made frames ---- */
+
+/* A pair of overlapping parts of the made bytes: the second begins dy rows and dx pixels later. */
+static void add_made_pair(uint32_t w, uint32_t h, uint32_t s, uint32_t scene, uint32_t dx, uint32_t dy)
+{
+    size_t size = (size_t)3 * w * h, later = 3 * ((size_t)dy * w + dx);
+    uint8_t *made = malloc(size + later);
+    make_frames((struct made){ scene, w, 65536, 0, 0 }, size + later, made);
+    struct vector v = pair_vector(w, h, s, made, made + later);
+    v.call = CALL_MADE_PAIR;
+    v.made = (struct slice){ made, size + later };
+    v.made_rows = 65536;
+    v.scene = scene;
+    v.percentile = all_percentiles[scene % 3];
+    v.tolerance = scene % 2 ? scene : 0;
+    add(&v);
+    free(made);
+}
+
+static void made_pairs(void)
+{
+    begin_group("made frames: pairs of s 5 to 8");
+    add_made_pair(128, 128, 5, 3, 2, 1);
+    add_made_pair(131, 150, 5, 4, 9, 3);
+    add_made_pair(256, 256, 6, 3, 11, 6);
+    add_made_pair(320, 257, 6, 0, 1, 12);
+    add_made_pair(257, 300, 6, 7, 20, 0);
+    add_made_pair(512, 512, 7, 0, 5, 3);
+    add_made_pair(515, 513, 7, 1, 7, 4);
+    add_made_pair(700, 520, 4, 2, 3, 8);
+    add_made_pair(1024, 1024, 8, 2, 9, 5);
+    add_made_pair(1030, 1025, 8, 3, 11, 6);
+    add_made_pair(1024, 1023, 8, 3, 11, 6);
+    add_made_pair(4096, 40, 3, 5, 4, 2);
+    add_made_pair(40, 4096, 3, 1, 4, 2);
+}
+
+static void add_made_series(uint32_t w, uint32_t h, uint32_t s, uint32_t n, uint32_t r, uint32_t scene)
+{
+    static const uint32_t percentiles[] = { 50, 17, 83, 50 };
+    size_t size = (size_t)3 * w * h * n;
+    uint8_t *made = malloc(size);
+    make_frames((struct made){ scene, w, h, 3, 2 }, size, made);
+    struct vector v = series_vector(w, h, s, n, r, percentiles, made);
+    v.call = CALL_MADE_SERIES;
+    v.made = (struct slice){ made, size };
+    v.made_rows = h;
+    v.scene = scene;
+    v.dx = 3;
+    v.dy = 2;
+    v.tolerance = 2;
+    add(&v);
+    free(made);
+}
+
+static void made_series(void)
+{
+    begin_group("made frames: series of s 5 to 7");
+    add_made_series(130, 140, 5, 4, 2, 3);
+    add_made_series(256, 256, 6, 3, 1, 3);
+    add_made_series(321, 260, 6, 3, 0, 4);
+    add_made_series(513, 512, 7, 3, 2, 0);
+}
+
+void made_file(const char *directory)
+{
+    begin_file();
+    made_pairs();
+    made_series();
+    end_file(directory, "made.bin");
+}
+
+/* ---- Document 01's worked examples ---- */
+
+static void flat_example(void)
+{
+    static uint8_t flat[3 * 16 * 16];
+    memset(flat, 77, sizeof flat);
+    struct vector v = pair_vector(16, 16, 2, flat, flat);
+    struct answer a = answer_of(&v);
+    static const uint32_t zero[27];
+    must(a.refusal == 0 && a.values[0] == (uint32_t)-7 && a.values[1] == (uint32_t)-7, "flat frames: (-7,-7)");
+    must(a.out_bytes[0] == sizeof zero && memcmp(a.out[0], zero, sizeof zero) == 0, "flat frames: 27 counts of 0");
+    free_answer(a);
+    add(&v);
+}
+
+static void expect_pair(uint32_t w, uint32_t h, uint32_t tolerance, uint32_t number)
+{
+    struct vector v = pair_vector(w, h, 2, noise, noise + 1000);
+    v.tolerance = tolerance;
+    must(add(&v) == number, "a pair of the worked examples");
+}
+
+static void expect_series(uint32_t n, uint32_t number)
+{
+    static uint32_t percentiles[17];
+    for (int i = 0; i < 17; i++)
+        percentiles[i] = 50;
+    struct vector v = series_vector(4, 4, 0, n, 0, percentiles, noise);
+    must(add(&v) == number, "a series of the worked examples");
+}
+
+/* "N=1: offset (0,0), no counts." */
+static void one_frame_example(void)
+{
+    struct vector v = series_vector(4, 4, 0, 1, 0, NULL, noise);
+    struct answer a = answer_of(&v);
+    static const int32_t zero[2];
+    must(v.out[1] == 0 && memcmp(a.out[0], zero, sizeof zero) == 0, "N=1: offset (0,0), no counts");
+    free_answer(a);
+    add(&v);
+}
+
+/* "Shift by w or more, or by the lowest signed number: all 0." */
+static void shift_example(int32_t dx, int32_t dy)
+{
+    static const uint64_t zero[6];
+    struct vector v = { .call = CALL_SHIFT, .w = 70, .h = 3, .dx = dx, .dy = dy, .in = { { noise_words, 0 } } };
+    fit_lengths(&v);
+    struct answer a = answer_of(&v);
+    must(a.refusal == 0 && memcmp(a.out[0], zero, sizeof zero) == 0, "shift by w or more: all 0");
+    free_answer(a);
+    add(&v);
+}
+
+void example_file(const char *directory)
+{
+    begin_file();
+    make_noise(0, "examples");
+    begin_group("document 01: worked examples that are not proved");
+    flat_example();
+    expect_pair(16, 16, 0, 0);
+    expect_pair(15, 16, 0, 4);
+    expect_pair(16, 15, 0, 4);
+    expect_pair(15, 15, 0, 4);
+    one_frame_example();
+    expect_series(16, 0);
+    expect_series(17, 6);
+    expect_pair(16, 16, 64, 0);
+    expect_pair(16, 16, 65, 5);
+    shift_example(70, 0);
+    shift_example(-70, 0);
+    shift_example(71, 1);
+    shift_example(INT32_MAX, 0);
+    shift_example(INT32_MIN, 0);
+    shift_example(0, INT32_MIN);
+    shift_example(0, 3);
+    end_file(directory, "examples.bin");
+}

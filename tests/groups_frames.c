@@ -1,0 +1,281 @@
+/* Grey conversion, halving, threshold; bitmaps, shift, total, difference. */
+#include "groups.h"
+
+static const uint32_t widths[] = { 1, 2, 3, 31, 63, 64, 65, 100, 127, 128, 129, 191, 192, 193 };
+static const uint32_t move_widths[] = { 1, 5, 63, 64, 65, 127, 128, 130, 200 };
+static const uint32_t percentiles[] = { 17, 50, 83 };
+
+/* ---- Grey ---- */
+
+static struct vector grey_vector(uint32_t w, uint32_t h, const uint8_t *raster)
+{
+    struct vector v = { .call = CALL_GREY, .w = w, .h = h, .in = { { raster, 0 } } };
+    fit_lengths(&v);
+    return v;
+}
+
+/* Every mixture of the darkest, middle and brightest values. */
+static void add_extreme_colours(void)
+{
+    static const uint8_t values[8] = { 0, 1, 2, 127, 128, 253, 254, 255 };
+    uint8_t raster[3 * 512];
+    for (int i = 0; i < 512; i++) {
+        raster[3 * i] = values[i / 64];
+        raster[3 * i + 1] = values[i / 8 % 8];
+        raster[3 * i + 2] = values[i % 8];
+    }
+    struct vector v = grey_vector(32, 16, raster);
+    add(&v);
+}
+
+static void grey_groups(void)
+{
+    begin_group("grey: sizes");
+    add_extreme_colours();
+    for (int i = 0; i < COUNT_OF(widths); i++)
+        for (uint32_t h = 1; h <= 5; h++) {
+            struct vector v = grey_vector(widths[i], h, noise + random_below(4000));
+            v.out[0] += h == 5 ? random_below(70) : 0;
+            add(&v);
+        }
+    struct vector wide = grey_vector(4096, 1, noise), tall = grey_vector(1, 4096, noise);
+    add(&wide);
+    add(&tall);
+    begin_group("grey: refusals");
+    static const struct breaker breakers[] = { { 2, false, break_size }, { 9, true, break_input }, { 10, true, break_output } };
+    add_subsets(grey_vector(7, 5, noise), breakers, COUNT_OF(breakers), 8);
+}
+
+/* ---- Halving ---- */
+
+static struct vector halve_vector(uint32_t w, uint32_t h, const uint8_t *grey)
+{
+    struct vector v = { .call = CALL_HALVE, .w = w, .h = h, .in = { { grey, 0 } } };
+    fit_lengths(&v);
+    return v;
+}
+
+static bool good_side(uint32_t side)
+{
+    return 0 < side && side <= 4096;
+}
+
+/* A side of 1; a side that is refused already stays so. */
+static void break_side(struct vector *v)
+{
+    bool width = good_side(v->w), height = good_side(v->h);
+    uint32_t which = random_below(3);
+    if (width && (which != 0 || !height))
+        v->w = 1;
+    if (height && (which != 1 || !width))
+        v->h = 1;
+}
+
+static void halve_groups(void)
+{
+    begin_group("halving: sizes");
+    for (int i = 1; i < COUNT_OF(widths); i++)
+        for (uint32_t h = 2; h <= 7; h++) {
+            const uint8_t *grey = h % 2 ? ties : noise;
+            struct vector v = halve_vector(widths[i], h, grey + random_below(4000));
+            v.out[0] += h > 5 ? random_below(70) : 0;
+            add(&v);
+        }
+    struct vector wide = halve_vector(4095, 3, noise), tall = halve_vector(3, 4096, noise);
+    add(&wide);
+    add(&tall);
+    begin_group("halving: refusals");
+    static const struct breaker breakers[] = { { 2, false, break_size },
+                                               { 4, false, break_side },
+                                               { 9, true, break_input },
+                                               { 10, true, break_output } };
+    add_subsets(halve_vector(7, 5, noise), breakers, COUNT_OF(breakers), 5);
+}
+
+/* ---- Threshold ---- */
+
+static struct vector threshold_vector(uint32_t w, uint32_t h, uint32_t percentile, const uint8_t *grey)
+{
+    struct vector v = { .call = CALL_THRESHOLD, .w = w, .h = h, .percentile = percentile, .in = { { grey, 0 } } };
+    fit_lengths(&v);
+    return v;
+}
+
+static void add_thresholds(uint32_t w, uint32_t h, const uint8_t *grey)
+{
+    for (int p = 0; p < COUNT_OF(percentiles); p++) {
+        struct vector v = threshold_vector(w, h, percentiles[p], grey);
+        add(&v);
+    }
+}
+
+/* Dark pixels just below, at and above a percentile of w·h, then bright ones. */
+static void add_edges(uint32_t w, uint32_t h, uint8_t dark, uint8_t bright)
+{
+    uint8_t grey[256];
+    for (int p = 0; p < COUNT_OF(percentiles); p++)
+        for (uint32_t off = 0; off < 4; off++) {
+            uint32_t darks = w * h * percentiles[p] / 100 + off - 1;
+            for (uint32_t i = 0; i < w * h; i++)
+                grey[i] = i * 7 % (w * h) < darks ? dark : bright;
+            add_thresholds(w, h, grey);
+        }
+}
+
+static void threshold_groups(void)
+{
+    begin_group("threshold: sizes");
+    for (int i = 0; i < COUNT_OF(widths); i++)
+        for (uint32_t h = 1; h <= 3; h++)
+            add_thresholds(widths[i], h, (h == 2 ? ties : noise) + random_below(4000));
+    begin_group("threshold: at the percentile");
+    add_edges(10, 10, 40, 41);
+    add_edges(10, 20, 0, 255);
+    add_edges(9, 13, 254, 255);
+    begin_group("threshold: refusals");
+    static const struct breaker breakers[] = {
+        { 2, false, break_size }, { 8, false, break_percentile }, { 9, true, break_input }
+    };
+    add_subsets(threshold_vector(7, 5, 83, noise), breakers, COUNT_OF(breakers), 10);
+}
+
+void frame_file(uint64_t seed, const char *directory)
+{
+    begin_file();
+    make_noise(seed, "frames");
+    keep_bytes(noise, NOISE_BYTES);
+    keep_bytes(ties, NOISE_BYTES / 2);
+    grey_groups();
+    halve_groups();
+    threshold_groups();
+    end_file(directory, "frames.bin");
+}
+
+/* ---- Bitmaps ---- */
+
+static struct vector bitmaps_vector(uint32_t w, uint32_t h, uint32_t threshold, uint32_t tolerance, const uint8_t *grey)
+{
+    struct vector v = { .call = CALL_BITMAPS, .w = w,  .h = h, .percentile = threshold, .tolerance = tolerance,
+                        .in = { { grey, 0 } } };
+    fit_lengths(&v);
+    return v;
+}
+
+static void bitmaps_groups(void)
+{
+    static const uint32_t levels[][2] = { { 0, 0 },  { 255, 0 },  { 128, 0 },  { 128, 1 }, { 128, 64 },
+                                          { 10, 64 }, { 250, 64 }, { 191, 63 }, { 2, 1 } };
+    begin_group("bitmaps: widths, thresholds, tolerances");
+    for (int i = 0; i < COUNT_OF(widths); i++)
+        for (int k = 0; k < COUNT_OF(levels); k++) {
+            const uint8_t *grey = k == COUNT_OF(levels) - 1 ? ties : noise;
+            struct vector v = bitmaps_vector(widths[i], 2 + k % 2, levels[k][0], levels[k][1], grey + random_below(1000));
+            v.out[k % 2] += (size_t)(k / 3);
+            add(&v);
+        }
+    begin_group("bitmaps: refusals");
+    static const struct breaker breakers[] = { { 2, false, break_size },
+                                               { 5, false, break_tolerance },
+                                               { 9, true, break_input },
+                                               { 10, true, break_output } };
+    add_subsets(bitmaps_vector(67, 3, 100, 64, noise), breakers, COUNT_OF(breakers), 5);
+}
+
+/* ---- Shift ---- */
+
+static struct vector shift_vector(uint32_t w, uint32_t h, int32_t dx, int32_t dy)
+{
+    struct vector v = { .call = CALL_SHIFT, .w = w, .h = h, .dx = dx, .dy = dy,
+                        .in = { { noise_words + random_below(200), 0 } } };
+    fit_lengths(&v);
+    return v;
+}
+
+static void add_shifts(uint32_t w, uint32_t h)
+{
+    for (int k = 0; k < MOVES; k++) {
+        struct vector along = shift_vector(w, h, side_move(w, k), side_move(h, (int)random_below(5)));
+        struct vector across = shift_vector(w, h, side_move(w, (int)random_below(MOVES)), side_move(h, k));
+        across.out[0] += (size_t)(k % 3);
+        add(&along);
+        add(&across);
+    }
+}
+
+static void shift_groups(void)
+{
+    begin_group("shift: widths and moves");
+    for (int i = 0; i < COUNT_OF(move_widths); i++)
+        add_shifts(move_widths[i], 3);
+    begin_group("shift: refusals");
+    static const struct breaker breakers[] = { { 2, false, break_size }, { 9, true, break_input }, { 10, true, break_output } };
+    add_subsets(shift_vector(67, 3, 1, -1), breakers, COUNT_OF(breakers), 8);
+}
+
+/* ---- Total ---- */
+
+static struct vector total_vector(uint32_t w, uint32_t h, const uint64_t *bitmap)
+{
+    struct vector v = { .call = CALL_TOTAL, .w = w, .h = h, .in = { { bitmap, 0 } } };
+    fit_lengths(&v);
+    return v;
+}
+
+static void total_groups(void)
+{
+    static uint64_t ones[64], zeros[64];
+    begin_group("total: sizes");
+    for (int i = 0; i < 64; i++)
+        ones[i] = UINT64_MAX;
+    for (int i = 0; i < COUNT_OF(widths); i++) {
+        struct vector random = total_vector(widths[i], 1 + (uint32_t)i % 7, noise_words + random_below(200));
+        struct vector full = total_vector(widths[i], 3, ones), empty = total_vector(widths[i], 3, zeros);
+        add(&random);
+        add(&full);
+        add(&empty);
+    }
+    begin_group("total: refusals");
+    static const struct breaker breakers[] = { { 2, false, break_size }, { 9, true, break_input } };
+    add_subsets(total_vector(67, 3, noise_words), breakers, COUNT_OF(breakers), 8);
+}
+
+/* ---- Difference ---- */
+
+static struct vector difference_vector(uint32_t w, uint32_t h, int32_t dx, int32_t dy)
+{
+    struct vector v = { .call = CALL_DIFFERENCE, .w = w, .h = h, .dx = dx, .dy = dy };
+    for (int i = 0; i < 4; i++)
+        v.in[i].data = noise_words + random_below(200);
+    fit_lengths(&v);
+    return v;
+}
+
+static void difference_groups(void)
+{
+    begin_group("difference: widths and moves");
+    for (int i = 0; i < COUNT_OF(move_widths); i++)
+        for (int k = 0; k < MOVES; k++) {
+            uint32_t w = move_widths[i], h = 1 + (uint32_t)k % 9;
+            struct vector v = difference_vector(w, h, side_move(w, k), side_move(h, (int)random_below(5)));
+            add(&v);
+            v = difference_vector(w, h, side_move(w, (int)random_below(5)), side_move(h, k));
+            add(&v);
+        }
+    begin_group("difference: refusals");
+    static const struct breaker breakers[] = { { 2, false, break_size }, { 9, true, break_input } };
+    add_subsets(difference_vector(67, 3, 2, 1), breakers, COUNT_OF(breakers), 16);
+}
+
+void bitmap_file(uint64_t seed, const char *directory)
+{
+    begin_file();
+    make_noise(seed, "bitmaps");
+    keep_bytes(noise_words, sizeof noise_words);
+    keep_bytes(noise, 2000);
+    keep_bytes(ties, 2000);
+    bitmaps_groups();
+    shift_groups();
+    total_groups();
+    difference_groups();
+    end_file(directory, "bitmaps.bin");
+}

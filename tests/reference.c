@@ -1,0 +1,899 @@
+/* Document 01, pixel by pixel. Sentences in quotation marks are the document's. */
+#include "reference.h"
+
+#include <stdio.h>
+#include <stdlib.h>
+
+enum {
+    MAX_SIDE = 4096,
+    MAX_HALVINGS = 8,
+    MAX_TOLERANCE = 64,
+    MAX_FRAMES = 16,
+    WORD_BITS = 64,
+    CANDIDATES = 9,
+    MAX_DIGITS = 9,
+    LARGEST_VALUE = 255,
+    MIN_AREA_OFFSET = -32768,
+    MAX_AREA_OFFSET = 32767,
+    BRACKET_FILE = 65536,
+    BRACKET_GREY = 65536,
+    BRACKET_WORDS = 8192,
+    BRACKET_COUNTS = CANDIDATES * (MAX_HALVINGS + 1),
+};
+
+/* A grey frame: "one byte a pixel", rows from the top. */
+struct frame {
+    uint32_t w, h;
+    uint8_t *grey;
+};
+
+/* The two bits of each pixel of a frame, a byte a bit. */
+struct bits {
+    uint32_t w, h;
+    uint8_t *threshold, *exclusion;
+};
+
+/* "Offset (dx,dy) moves a frame right by dx and down by dy." */
+struct offset {
+    int64_t dx, dy;
+};
+
+static void *memory(size_t bytes)
+{
+    void *new = malloc(bytes ? bytes : 1);
+    if (!new) {
+        fprintf(stderr, "reference: no memory\n");
+        exit(2);
+    }
+    return new;
+}
+
+/* ---- Sizes ---- */
+
+static size_t pixels(uint32_t w, uint32_t h)
+{
+    return (size_t)w * h;
+}
+
+/* "A raster is rows from the top, three bytes a pixel: R, G, B." */
+static size_t raster_bytes(uint32_t w, uint32_t h)
+{
+    return 3 * pixels(w, h);
+}
+
+/* "A bitmap row is W = ceil(w/64) words of 64 bits." */
+static uint32_t row_words(uint32_t w)
+{
+    uint32_t words = 0;
+    while (words * WORD_BITS < w)
+        words++;
+    return words;
+}
+
+static size_t bitmap_words(uint32_t w, uint32_t h)
+{
+    return (size_t)row_words(w) * h;
+}
+
+/* "The counts are given as 9·(s+1) 32-bit numbers" */
+static size_t pair_counts(uint32_t s)
+{
+    return (size_t)CANDIDATES * (s + 1);
+}
+
+/* "grey, 2·(sum over levels of width·height) bytes" */
+static size_t grey_memory(uint32_t w, uint32_t h, uint32_t s)
+{
+    size_t sum = 0;
+    for (uint32_t level = 0; level <= s; level++) {
+        sum += pixels(w, h);
+        w /= 2;
+        h /= 2;
+    }
+    return 2 * sum;
+}
+
+/* "words, 6·W·h" */
+static size_t word_memory(uint32_t w, uint32_t h)
+{
+    return 6 * bitmap_words(w, h);
+}
+
+/* ---- Conditions of the refusal numbers ---- */
+
+/* 2. "A width or height is 0 or above 4096." */
+static bool bad_size(uint32_t w, uint32_t h)
+{
+    return w == 0 || w > MAX_SIDE || h == 0 || h > MAX_SIDE;
+}
+
+/* 4. "A side is below 2^(s+2)" */
+static bool too_small(uint32_t w, uint32_t h, uint32_t s)
+{
+    uint32_t least = 4;
+    for (uint32_t i = 0; i < s; i++)
+        least *= 2;
+    return w < least || h < least;
+}
+
+/* 8. "… or one isn't 17, 50 or 83." */
+static bool bad_percentile(uint32_t percentile)
+{
+    return percentile != 17 && percentile != 50 && percentile != 83;
+}
+
+static bool bad_percentiles(uint32_t n, const uint32_t *percentiles, size_t percentiles_len)
+{
+    if (percentiles_len != n - 1)
+        return true;
+    for (size_t i = 0; i < percentiles_len; i++)
+        if (bad_percentile(percentiles[i]))
+            return true;
+    return false;
+}
+
+/* 11. "Grey or word work memory is shorter than needed." */
+static bool short_memory(uint32_t w, uint32_t h, uint32_t s, size_t grey_len, size_t words_len)
+{
+    return grey_len < grey_memory(w, h, s) || words_len < word_memory(w, h);
+}
+
+/* ---- Pixel rules ---- */
+
+/* "Grey = (54·R + 183·G + 19·B) / 256, rounded down." */
+static uint8_t grey_of(uint8_t red, uint8_t green, uint8_t blue)
+{
+    return (uint8_t)((54 * red + 183 * green + 19 * blue) / 256);
+}
+
+static void grey_frame(const uint8_t *raster, size_t count, uint8_t *grey)
+{
+    for (size_t i = 0; i < count; i++)
+        grey[i] = grey_of(raster[3 * i], raster[3 * i + 1], raster[3 * i + 2]);
+}
+
+/* "the second smallest, repeats counted, of its four": at most one is smaller, and at least two are not larger. */
+static uint8_t second_smallest(const uint8_t four[4])
+{
+    for (int i = 0; i < 4; i++) {
+        int smaller = 0, not_larger = 0;
+        for (int j = 0; j < 4; j++) {
+            smaller += four[j] < four[i];
+            not_larger += four[j] <= four[i];
+        }
+        if (smaller <= 1 && not_larger >= 2)
+            return four[i];
+    }
+    abort();
+}
+
+/* "Halving gives floor(w/2) by floor(h/2); an odd last column or row is dropped." */
+static void halve_frame(const uint8_t *grey, uint32_t w, uint32_t h, uint8_t *out)
+{
+    for (uint32_t y = 0; y < h / 2; y++)
+        for (uint32_t x = 0; x < w / 2; x++) {
+            const uint8_t *upper = grey + (size_t)(2 * y) * w + 2 * x;
+            const uint8_t *lower = grey + (size_t)(2 * y + 1) * w + 2 * x;
+            const uint8_t four[4] = { upper[0], upper[1], lower[0], lower[1] };
+            out[(size_t)y * (w / 2) + x] = second_smallest(four);
+        }
+}
+
+static uint64_t pixels_at_most(const uint8_t *grey, size_t count, uint32_t value)
+{
+    uint64_t found = 0;
+    for (size_t i = 0; i < count; i++)
+        found += grey[i] <= value;
+    return found;
+}
+
+/* "the smallest grey value v with 100·(pixels at most v) ≥ P·w·h" */
+static uint8_t threshold_of(const uint8_t *grey, size_t count, uint32_t percentile)
+{
+    for (uint32_t v = 0; v <= 255; v++)
+        if (100 * pixels_at_most(grey, count, v) >= (uint64_t)percentile * count)
+            return (uint8_t)v;
+    abort();
+}
+
+/* "Threshold bit: 1 where grey > t." */
+static bool threshold_bit(uint8_t grey, uint8_t t)
+{
+    return grey > t;
+}
+
+/* "Exclusion bit: 0 where |grey − t| ≤ T, else 1." */
+static bool exclusion_bit(uint8_t grey, uint8_t t, uint32_t tolerance)
+{
+    return (uint32_t)abs((int)grey - (int)t) > tolerance;
+}
+
+/* ---- Bitmaps ---- */
+
+/* "Pixel x is bit x mod 64 (bit 0 the lowest) of word floor(x/64)." */
+static bool read_bit(const uint64_t *bitmap, uint32_t w, uint32_t x, uint32_t y)
+{
+    return bitmap[(size_t)y * row_words(w) + x / WORD_BITS] >> (x % WORD_BITS) & 1;
+}
+
+static void write_bit(uint64_t *bitmap, uint32_t w, uint32_t x, uint32_t y, bool bit)
+{
+    uint64_t *word = &bitmap[(size_t)y * row_words(w) + x / WORD_BITS];
+    uint64_t mask = (uint64_t)1 << (x % WORD_BITS);
+    *word = bit ? *word | mask : *word & ~mask;
+}
+
+/* "Bits past w are written 0". */
+static void clear_past_width(uint64_t *bitmap, uint32_t w, uint32_t h)
+{
+    for (uint32_t y = 0; y < h; y++)
+        for (uint32_t x = w; x < row_words(w) * WORD_BITS; x++)
+            write_bit(bitmap, w, x, y, false);
+}
+
+static bool in_frame(int64_t x, int64_t y, uint32_t w, uint32_t h)
+{
+    return 0 <= x && x < w && 0 <= y && y < h;
+}
+
+static struct bits new_bits(uint32_t w, uint32_t h)
+{
+    return (struct bits){ w, h, memory(pixels(w, h)), memory(pixels(w, h)) };
+}
+
+static void free_bits(struct bits bits)
+{
+    free(bits.threshold);
+    free(bits.exclusion);
+}
+
+static struct bits bits_of_frame(const struct frame *frame, uint8_t t, uint32_t tolerance)
+{
+    struct bits bits = new_bits(frame->w, frame->h);
+    for (size_t i = 0; i < pixels(frame->w, frame->h); i++) {
+        bits.threshold[i] = threshold_bit(frame->grey[i], t);
+        bits.exclusion[i] = exclusion_bit(frame->grey[i], t, tolerance);
+    }
+    return bits;
+}
+
+static struct bits bits_of_words(uint32_t w, uint32_t h, const uint64_t *threshold, const uint64_t *exclusion)
+{
+    struct bits bits = new_bits(w, h);
+    for (uint32_t y = 0; y < h; y++)
+        for (uint32_t x = 0; x < w; x++) {
+            bits.threshold[(size_t)y * w + x] = read_bit(threshold, w, x, y);
+            bits.exclusion[(size_t)y * w + x] = read_bit(exclusion, w, x, y);
+        }
+    return bits;
+}
+
+/* "both exclusion bits 1 and the threshold bits unequal" */
+static bool differ(const struct bits *first, size_t i, const struct bits *second, size_t j)
+{
+    return first->exclusion[i] && second->exclusion[j] && first->threshold[i] != second->threshold[j];
+}
+
+/* "Difference count at (dx,dy): pixels (x,y) whose partner (x−dx, y−dy) in the second frame lies in it, with …" */
+static uint32_t difference_count(const struct bits *first, const struct bits *second, struct offset by)
+{
+    uint32_t w = first->w, h = first->h, count = 0;
+    for (int64_t y = 0; y < h; y++)
+        for (int64_t x = 0; x < w; x++)
+            if (in_frame(x - by.dx, y - by.dy, w, h))
+                count += differ(first, (size_t)(y * w + x), second, (size_t)((y - by.dy) * w + (x - by.dx)));
+    return count;
+}
+
+/* ---- Pair ---- */
+
+/* "With centre (cx,cy) the nine candidates are (cx+i, cy+j), i from −1 to 1 outside, j from −1 to 1 inside. The first with the
+ * least count is the level's answer." */
+static struct offset first_least(const struct bits *first, const struct bits *second, struct offset centre,
+                                 uint32_t *counts)
+{
+    struct offset best = centre;
+    uint32_t least = UINT32_MAX;
+    for (int i = -1; i <= 1; i++)
+        for (int j = -1; j <= 1; j++) {
+            struct offset candidate = { centre.dx + i, centre.dy + j };
+            uint32_t count = difference_count(first, second, candidate);
+            *counts++ = count;
+            if (count < least) {
+                least = count;
+                best = candidate;
+            }
+        }
+    return best;
+}
+
+/* "Each level takes its threshold afresh, both frames with the same P." */
+static struct offset settle_level(const struct frame *first, const struct frame *second, struct offset centre,
+                                  uint32_t tolerance, uint32_t percentile, uint32_t *counts)
+{
+    size_t count = pixels(first->w, first->h);
+    struct bits bits1 = bits_of_frame(first, threshold_of(first->grey, count, percentile), tolerance);
+    struct bits bits2 = bits_of_frame(second, threshold_of(second->grey, count, percentile), tolerance);
+    struct offset best = first_least(&bits1, &bits2, centre, counts);
+    free_bits(bits1);
+    free_bits(bits2);
+    return best;
+}
+
+static struct frame halved(const struct frame *frame)
+{
+    struct frame half = { frame->w / 2, frame->h / 2, memory(pixels(frame->w / 2, frame->h / 2)) };
+    halve_frame(frame->grey, frame->w, frame->h, half.grey);
+    return half;
+}
+
+/* "A level's answer rests on that of the next coarser one, doubled; below the coarsest it is (0,0)." Counts: "coarsest level
+ * first". */
+static struct offset align(const struct frame *first, const struct frame *second, uint32_t s, uint32_t tolerance,
+                           uint32_t percentile, uint32_t *counts)
+{
+    struct offset centre = { 0, 0 };
+    if (s > 0) {
+        struct frame half1 = halved(first), half2 = halved(second);
+        struct offset coarser = align(&half1, &half2, s - 1, tolerance, percentile, counts);
+        centre = (struct offset){ 2 * coarser.dx, 2 * coarser.dy };
+        free(half1.grey);
+        free(half2.grey);
+    }
+    return settle_level(first, second, centre, tolerance, percentile, counts + (size_t)CANDIDATES * s);
+}
+
+static struct frame frame_of_raster(uint32_t w, uint32_t h, const uint8_t *raster)
+{
+    struct frame frame = { w, h, memory(pixels(w, h)) };
+    grey_frame(raster, pixels(w, h), frame.grey);
+    return frame;
+}
+
+static struct offset align_rasters(uint32_t w, uint32_t h, uint32_t s, uint32_t tolerance, uint32_t percentile,
+                                   const uint8_t *first, const uint8_t *second, uint32_t *counts)
+{
+    struct frame frame1 = frame_of_raster(w, h, first), frame2 = frame_of_raster(w, h, second);
+    struct offset found = align(&frame1, &frame2, s, tolerance, percentile, counts);
+    free(frame1.grey);
+    free(frame2.grey);
+    return found;
+}
+
+/* ---- Series ---- */
+
+/* "Pair j is frames j−1 and j, with offset d(j)"; "counts run pair 1 first". */
+static void align_pairs(uint32_t w, uint32_t h, uint32_t s, uint32_t tolerance, uint32_t n, const uint32_t *percentiles,
+                        const uint8_t *rasters, struct offset d[MAX_FRAMES], uint32_t *counts)
+{
+    for (uint32_t j = 1; j < n; j++)
+        d[j] = align_rasters(w, h, s, tolerance, percentiles[j - 1], rasters + (j - 1) * raster_bytes(w, h),
+                             rasters + j * raster_bytes(w, h), counts + (j - 1) * pair_counts(s));
+}
+
+/* "Frame r has (0,0). Frame k above r has d(r+1)+…+d(k), frame k below r has −(d(k+1)+…+d(r))." */
+static struct offset frame_offset(const struct offset d[MAX_FRAMES], uint32_t r, uint32_t k)
+{
+    struct offset sum = { 0, 0 };
+    for (uint32_t j = r + 1; j <= k; j++) {
+        sum.dx += d[j].dx;
+        sum.dy += d[j].dy;
+    }
+    for (uint32_t j = k + 1; j <= r; j++) {
+        sum.dx -= d[j].dx;
+        sum.dy -= d[j].dy;
+    }
+    return sum;
+}
+
+/* ---- The calls on frames and bitmaps ---- */
+
+uint32_t ref_grey(uint32_t w, uint32_t h, const uint8_t *raster, size_t raster_len, uint8_t *grey, size_t grey_len)
+{
+    if (bad_size(w, h))
+        return 2;
+    if (raster_len != raster_bytes(w, h))
+        return 9;
+    if (grey_len < pixels(w, h))
+        return 10;
+    grey_frame(raster, pixels(w, h), grey);
+    return 0;
+}
+
+uint32_t ref_halve(uint32_t w, uint32_t h, const uint8_t *grey, size_t grey_len, uint8_t *out, size_t out_len)
+{
+    if (bad_size(w, h))
+        return 2;
+    if (w < 2 || h < 2)
+        return 4;
+    if (grey_len != pixels(w, h))
+        return 9;
+    if (out_len < pixels(w / 2, h / 2))
+        return 10;
+    halve_frame(grey, w, h, out);
+    return 0;
+}
+
+uint32_t ref_threshold(uint32_t w, uint32_t h, uint32_t percentile, const uint8_t *grey, size_t grey_len,
+                       uint8_t *threshold)
+{
+    if (bad_size(w, h))
+        return 2;
+    if (bad_percentile(percentile))
+        return 8;
+    if (grey_len != pixels(w, h))
+        return 9;
+    *threshold = threshold_of(grey, pixels(w, h), percentile);
+    return 0;
+}
+
+uint32_t ref_bitmaps(uint32_t w, uint32_t h, uint8_t threshold, uint32_t tolerance, const uint8_t *grey, size_t grey_len,
+                     uint64_t *threshold_bits, size_t threshold_bits_len, uint64_t *exclusion_bits,
+                     size_t exclusion_bits_len)
+{
+    if (bad_size(w, h))
+        return 2;
+    if (tolerance > MAX_TOLERANCE)
+        return 5;
+    if (grey_len != pixels(w, h))
+        return 9;
+    if (threshold_bits_len < bitmap_words(w, h) || exclusion_bits_len < bitmap_words(w, h))
+        return 10;
+    for (uint32_t y = 0; y < h; y++)
+        for (uint32_t x = 0; x < w; x++) {
+            uint8_t value = grey[(size_t)y * w + x];
+            write_bit(threshold_bits, w, x, y, threshold_bit(value, threshold));
+            write_bit(exclusion_bits, w, x, y, exclusion_bit(value, threshold, tolerance));
+        }
+    clear_past_width(threshold_bits, w, h);
+    clear_past_width(exclusion_bits, w, h);
+    return 0;
+}
+
+/* "the new bit at (x,y) is the old bit at (x−dx, y−dy) if that lies in the frame, else 0" */
+uint32_t ref_shift(uint32_t w, uint32_t h, int32_t dx, int32_t dy, const uint64_t *bitmap, size_t bitmap_len,
+                   uint64_t *out, size_t out_len)
+{
+    if (bad_size(w, h))
+        return 2;
+    if (bitmap_len != bitmap_words(w, h))
+        return 9;
+    if (out_len < bitmap_words(w, h))
+        return 10;
+    for (int64_t y = 0; y < h; y++)
+        for (int64_t x = 0; x < w; x++) {
+            int64_t from_x = x - dx, from_y = y - dy;
+            bool bit = in_frame(from_x, from_y, w, h) && read_bit(bitmap, w, (uint32_t)from_x, (uint32_t)from_y);
+            write_bit(out, w, (uint32_t)x, (uint32_t)y, bit);
+        }
+    clear_past_width(out, w, h);
+    return 0;
+}
+
+uint32_t ref_total(uint32_t w, uint32_t h, const uint64_t *bitmap, size_t bitmap_len, uint32_t *total)
+{
+    if (bad_size(w, h))
+        return 2;
+    if (bitmap_len != bitmap_words(w, h))
+        return 9;
+    *total = 0;
+    for (uint32_t y = 0; y < h; y++)
+        for (uint32_t x = 0; x < w; x++)
+            *total += read_bit(bitmap, w, x, y);
+    return 0;
+}
+
+uint32_t ref_difference(uint32_t w, uint32_t h, int32_t dx, int32_t dy, const uint64_t *threshold1, size_t threshold1_len,
+                        const uint64_t *exclusion1, size_t exclusion1_len, const uint64_t *threshold2,
+                        size_t threshold2_len, const uint64_t *exclusion2, size_t exclusion2_len, uint32_t *count)
+{
+    if (bad_size(w, h))
+        return 2;
+    size_t needed = bitmap_words(w, h);
+    if (threshold1_len != needed || exclusion1_len != needed || threshold2_len != needed || exclusion2_len != needed)
+        return 9;
+    struct bits first = bits_of_words(w, h, threshold1, exclusion1);
+    struct bits second = bits_of_words(w, h, threshold2, exclusion2);
+    *count = difference_count(&first, &second, (struct offset){ dx, dy });
+    free_bits(first);
+    free_bits(second);
+    return 0;
+}
+
+/* ---- The calls that align ---- */
+
+/* 2 to 5, which pair and series share. */
+static uint32_t settings_refusal(uint32_t w, uint32_t h, uint32_t s, uint32_t tolerance)
+{
+    if (bad_size(w, h))
+        return 2;
+    if (s > MAX_HALVINGS)
+        return 3;
+    if (too_small(w, h, s))
+        return 4;
+    if (tolerance > MAX_TOLERANCE)
+        return 5;
+    return 0;
+}
+
+uint32_t ref_pair(uint32_t w, uint32_t h, uint32_t s, uint32_t tolerance, uint32_t percentile, const uint8_t *first,
+                  size_t first_len, const uint8_t *second, size_t second_len, int32_t *dx, int32_t *dy, uint32_t *counts,
+                  size_t counts_len, uint8_t *grey, size_t grey_len, uint64_t *words, size_t words_len)
+{
+    (void)grey;
+    (void)words;
+    uint32_t refusal = settings_refusal(w, h, s, tolerance);
+    if (refusal)
+        return refusal;
+    if (bad_percentile(percentile))
+        return 8;
+    if (first_len != raster_bytes(w, h) || second_len != raster_bytes(w, h))
+        return 9;
+    if (counts_len < pair_counts(s))
+        return 10;
+    if (short_memory(w, h, s, grey_len, words_len))
+        return 11;
+    struct offset found = align_rasters(w, h, s, tolerance, percentile, first, second, counts);
+    *dx = (int32_t)found.dx;
+    *dy = (int32_t)found.dy;
+    return 0;
+}
+
+static uint32_t series_refusal(uint32_t w, uint32_t h, uint32_t s, uint32_t tolerance, uint32_t n, uint32_t r,
+                               const uint32_t *percentiles, size_t percentiles_len, size_t rasters_len,
+                               size_t offsets_len, size_t counts_len, size_t grey_len, size_t words_len)
+{
+    uint32_t refusal = settings_refusal(w, h, s, tolerance);
+    if (refusal)
+        return refusal;
+    if (n == 0 || n > MAX_FRAMES)
+        return 6;
+    if (r >= n)
+        return 7;
+    if (bad_percentiles(n, percentiles, percentiles_len))
+        return 8;
+    if (rasters_len != n * raster_bytes(w, h))
+        return 9;
+    if (offsets_len < 2 * (size_t)n || counts_len < (n - 1) * pair_counts(s))
+        return 10;
+    if (short_memory(w, h, s, grey_len, words_len))
+        return 11;
+    return 0;
+}
+
+uint32_t ref_series(uint32_t w, uint32_t h, uint32_t s, uint32_t tolerance, uint32_t n, uint32_t r,
+                    const uint32_t *percentiles, size_t percentiles_len, const uint8_t *rasters, size_t rasters_len,
+                    int32_t *offsets, size_t offsets_len, uint32_t *counts, size_t counts_len, uint8_t *grey,
+                    size_t grey_len, uint64_t *words, size_t words_len)
+{
+    (void)grey;
+    (void)words;
+    uint32_t refusal = series_refusal(w, h, s, tolerance, n, r, percentiles, percentiles_len, rasters_len, offsets_len,
+                                      counts_len, grey_len, words_len);
+    if (refusal)
+        return refusal;
+    struct offset d[MAX_FRAMES];
+    align_pairs(w, h, s, tolerance, n, percentiles, rasters, d, counts);
+    for (uint32_t k = 0; k < n; k++) {
+        struct offset offset = frame_offset(d, r, k);
+        offsets[2 * k] = (int32_t)offset.dx;
+        offsets[2 * k + 1] = (int32_t)offset.dy;
+    }
+    return 0;
+}
+
+size_t ref_grey_needed(uint32_t w, uint32_t h, uint32_t s)
+{
+    return settings_refusal(w, h, s, 0) ? 0 : grey_memory(w, h, s);
+}
+
+size_t ref_words_needed(uint32_t w, uint32_t h, uint32_t s)
+{
+    return settings_refusal(w, h, s, 0) ? 0 : word_memory(w, h);
+}
+
+/* ---- Text ---- */
+
+/* Bytes that are read from the beginning on. */
+struct text {
+    const uint8_t *bytes;
+    size_t length, at;
+};
+
+static bool next_is(const struct text *text, uint8_t byte)
+{
+    return text->at < text->length && text->bytes[text->at] == byte;
+}
+
+static bool take(struct text *text, uint8_t byte)
+{
+    bool is = next_is(text, byte);
+    text->at += is;
+    return is;
+}
+
+static bool next_is_digit(const struct text *text)
+{
+    return text->at < text->length && '0' <= text->bytes[text->at] && text->bytes[text->at] <= '9';
+}
+
+/* "A number has one to nine decimal digits; leading zeros are allowed and count among the nine, so 0255 is 255." */
+static bool take_number(struct text *text, uint32_t *value)
+{
+    int digits = 0;
+    uint64_t number = 0;
+    while (next_is_digit(text) && digits <= MAX_DIGITS) {
+        number = 10 * number + (text->bytes[text->at++] - '0');
+        digits++;
+    }
+    *value = (uint32_t)number;
+    return 1 <= digits && digits <= MAX_DIGITS;
+}
+
+/* ---- P6 ---- */
+
+/* "Whitespace is one or more of the bytes 9, 10, 13 and 32." This takes a single one. */
+static bool take_white(struct text *file)
+{
+    return take(file, 9) || take(file, 10) || take(file, 13) || take(file, 32);
+}
+
+static bool take_whitespace(struct text *file)
+{
+    bool some = false;
+    while (take_white(file))
+        some = true;
+    return some;
+}
+
+/* "the file begins with the bytes 50 36 hexadecimal, "P6"; then whitespace, width, whitespace, height, whitespace, 255, exactly
+ * one whitespace byte, raster" */
+static bool take_header(struct text *file, uint32_t *w, uint32_t *h)
+{
+    uint32_t largest;
+    return take(file, 0x50) && take(file, 0x36) && take_whitespace(file) && take_number(file, w) && take_whitespace(file) &&
+           take_number(file, h) && take_whitespace(file) && take_number(file, &largest) && largest == LARGEST_VALUE &&
+           take_white(file);
+}
+
+static uint32_t read_p6(const uint8_t *file, size_t file_len, uint32_t *w, uint32_t *h, size_t *start)
+{
+    struct text text = { file, file_len, 0 };
+    if (!take_header(&text, w, h))
+        return 1;
+    if (bad_size(*w, *h))
+        return 2;
+    *start = text.at;
+    if (file_len - text.at != raster_bytes(*w, *h))
+        return 9;
+    return 0;
+}
+
+uint32_t ref_p6_size(const uint8_t *file, size_t file_len, uint32_t *w, uint32_t *h)
+{
+    uint32_t width, height;
+    size_t begin;
+    uint32_t refusal = read_p6(file, file_len, &width, &height, &begin);
+    if (refusal)
+        return refusal;
+    *w = width;
+    *h = height;
+    return 0;
+}
+
+uint32_t ref_p6_raster(const uint8_t *file, size_t file_len, size_t *start, size_t *length)
+{
+    uint32_t width, height;
+    size_t begin;
+    uint32_t refusal = read_p6(file, file_len, &width, &height, &begin);
+    if (refusal)
+        return refusal;
+    *start = begin;
+    *length = file_len - begin;
+    return 0;
+}
+
+/* "The writer uses one byte 10 for each whitespace but a 32 between width and height, no leading zeros, and tells the number of
+ * bytes written." */
+uint32_t ref_p6_write(uint32_t w, uint32_t h, const uint8_t *raster, size_t raster_len, uint8_t *out, size_t out_len,
+                      size_t *written)
+{
+    if (bad_size(w, h))
+        return 2;
+    if (raster_len != raster_bytes(w, h))
+        return 9;
+    char header[32];
+    size_t header_len = (size_t)snprintf(header, sizeof header, "P6\n%u %u\n255\n", (unsigned)w, (unsigned)h);
+    if (out_len < header_len + raster_len)
+        return 10;
+    for (size_t i = 0; i < header_len; i++)
+        out[i] = (uint8_t)header[i];
+    for (size_t i = 0; i < raster_len; i++)
+        out[header_len + i] = raster[i];
+    *written = header_len + raster_len;
+    return 0;
+}
+
+/* ---- Common area, moved frame, blink row ---- */
+
+/* Columns or rows that a side has in common in all frames: from *low up to, not including, *high. Offsets stand 2 apart. */
+static void common_side(uint32_t side, uint32_t n, const int32_t *offsets, int64_t *low, int64_t *high)
+{
+    *low = 0;
+    *high = side;
+    for (uint32_t k = 0; k < n; k++) {
+        int64_t d = offsets[2 * k];
+        if (d > *low)
+            *low = d;
+        if (side + d < *high)
+            *high = side + d;
+    }
+}
+
+/* 12. "A common-area offset is outside −32768 to 32767." */
+static bool outside_area(const int32_t *offsets, size_t count)
+{
+    for (size_t i = 0; i < count; i++)
+        if (offsets[i] < MIN_AREA_OFFSET || offsets[i] > MAX_AREA_OFFSET)
+            return true;
+    return false;
+}
+
+/* "columns from max(0, all dx) up to, not including, min(w, all w+dx); rows likewise" */
+uint32_t ref_common_area(uint32_t w, uint32_t h, uint32_t n, const int32_t *offsets, size_t offsets_len, uint32_t *left,
+                         uint32_t *right, uint32_t *top, uint32_t *bottom)
+{
+    if (bad_size(w, h))
+        return 2;
+    if (n == 0 || n > MAX_FRAMES)
+        return 6;
+    if (offsets_len != 2 * (size_t)n)
+        return 9;
+    if (outside_area(offsets, offsets_len))
+        return 12;
+    int64_t low_x, high_x, low_y, high_y;
+    common_side(w, n, offsets, &low_x, &high_x);
+    common_side(h, n, offsets + 1, &low_y, &high_y);
+    if (low_x >= high_x || low_y >= high_y)
+        return 13;
+    *left = (uint32_t)low_x;
+    *right = (uint32_t)high_x;
+    *top = (uint32_t)low_y;
+    *bottom = (uint32_t)high_y;
+    return 0;
+}
+
+/* "the shift rule on RGB pixels with 0,0,0 outside" */
+uint32_t ref_moved(uint32_t w, uint32_t h, int32_t dx, int32_t dy, const uint8_t *raster, size_t raster_len, uint8_t *out,
+                   size_t out_len)
+{
+    if (bad_size(w, h))
+        return 2;
+    if (raster_len != raster_bytes(w, h))
+        return 9;
+    if (out_len < raster_bytes(w, h))
+        return 10;
+    for (int64_t y = 0; y < h; y++)
+        for (int64_t x = 0; x < w; x++)
+            for (int64_t c = 0; c < 3; c++) {
+                bool inside = in_frame(x - dx, y - dy, w, h);
+                out[3 * (y * w + x) + c] = inside ? raster[3 * ((y - dy) * w + (x - dx)) + c] : 0;
+            }
+    return 0;
+}
+
+/* "row y of the first or the second lent raster, as chosen, handed back as part of that raster" */
+uint32_t ref_blink_row(uint32_t w, uint32_t h, uint32_t y, bool second, const uint8_t *first_raster, size_t first_len,
+                       const uint8_t *second_raster, size_t second_len, size_t *start, size_t *length)
+{
+    (void)second;
+    (void)first_raster;
+    (void)second_raster;
+    if (bad_size(w, h))
+        return 2;
+    if (first_len != raster_bytes(w, h) || second_len != raster_bytes(w, h))
+        return 9;
+    if (y >= h)
+        return 14;
+    *start = raster_bytes(w, y);
+    *length = raster_bytes(w, 1);
+    return 0;
+}
+
+/* ---- The program `bracket` ---- */
+
+struct settings {
+    uint32_t s, tolerance, percentile;
+};
+
+/* "A line that isn't three numbers of one to nine digits with a 32 between prints only `settings`"; "The settings line ends at a
+ * byte 10 or at the end of input." */
+static bool read_settings(const uint8_t *input, size_t input_len, struct settings *settings)
+{
+    struct text line = { input, input_len, 0 };
+    return take_number(&line, &settings->s) && take(&line, 32) && take_number(&line, &settings->tolerance) &&
+           take(&line, 32) && take_number(&line, &settings->percentile) && (line.at == line.length || next_is(&line, 10));
+}
+
+/* A file as `bracket` has read it, and what its header says. */
+struct picture {
+    uint32_t refusal, w, h;
+    const uint8_t *raster;
+    size_t raster_len;
+};
+
+/* "65536 bytes at most each; a missing or longer file counts as empty" */
+static struct picture read_picture(const uint8_t *file, size_t file_len)
+{
+    struct picture picture = { 0, 0, 0, file, 0 };
+    if (file_len > BRACKET_FILE)
+        file_len = 0;
+    size_t start = 0;
+    picture.refusal = ref_p6_size(file, file_len, &picture.w, &picture.h);
+    if (!picture.refusal) {
+        ref_p6_raster(file, file_len, &start, &picture.raster_len);
+        picture.raster = file + start;
+    }
+    return picture;
+}
+
+/* The pair's number: "a second frame of another size counts as 9", after every lower number that applies. */
+static uint32_t align_pictures(struct settings set, const struct picture *first, const struct picture *second, int32_t *dx,
+                               int32_t *dy, uint32_t counts[BRACKET_COUNTS])
+{
+    uint32_t lower = settings_refusal(first->w, first->h, set.s, set.tolerance);
+    if (lower)
+        return lower;
+    if (bad_percentile(set.percentile))
+        return 8;
+    if (first->w != second->w || first->h != second->h)
+        return 9;
+    return ref_pair(first->w, first->h, set.s, set.tolerance, set.percentile, first->raster, first->raster_len,
+                    second->raster, second->raster_len, dx, dy, counts, BRACKET_COUNTS, NULL, BRACKET_GREY, NULL,
+                    BRACKET_WORDS);
+}
+
+/* "offset dx dy, then a line a level, coarsest first, the number of halvings before the colon, the nine counts after it" */
+static size_t print_alignment(uint32_t s, int32_t dx, int32_t dy, const uint32_t *counts, char *text)
+{
+    char *end = text + sprintf(text, "offset %ld %ld\n", (long)dx, (long)dy);
+    for (uint32_t level = 0; level <= s; level++) {
+        end += sprintf(end, "%lu:", (unsigned long)(s - level));
+        for (int i = 0; i < CANDIDATES; i++)
+            end += sprintf(end, " %lu", (unsigned long)*counts++);
+        end += sprintf(end, "\n");
+    }
+    return (size_t)(end - text);
+}
+
+/* "A refusal prints only `refused`, a 32 and its number: the first file's, else the second's, else the pair's" */
+static size_t print_answer(struct settings set, const struct picture *first, const struct picture *second, char *text)
+{
+    int32_t dx = 0, dy = 0;
+    uint32_t counts[BRACKET_COUNTS];
+    uint32_t refusal = first->refusal;
+    if (!refusal)
+        refusal = second->refusal;
+    if (!refusal)
+        refusal = align_pictures(set, first, second, &dx, &dy, counts);
+    if (refusal)
+        return (size_t)sprintf(text, "refused %lu\n", (unsigned long)refusal);
+    return print_alignment(set.s, dx, dy, counts, text);
+}
+
+size_t ref_bracket(const uint8_t *input, size_t input_len, const uint8_t *first, size_t first_len, const uint8_t *second,
+                   size_t second_len, uint8_t *out)
+{
+    char text[REF_BRACKET_ROOM];
+    struct settings settings;
+    size_t length;
+    if (read_settings(input, input_len, &settings)) {
+        struct picture picture1 = read_picture(first, first_len), picture2 = read_picture(second, second_len);
+        length = print_answer(settings, &picture1, &picture2, text);
+    } else {
+        length = (size_t)sprintf(text, "settings\n");
+    }
+    for (size_t i = 0; i < length; i++)
+        out[i] = (uint8_t)text[i];
+    return length;
+}

@@ -1,0 +1,232 @@
+/* The data files: records, and the pool of bytes that they name. FORMAT.md describes them. */
+#define _GNU_SOURCE /* memmem */
+#include "vectors.h"
+
+#include <stdio.h>
+#include <stdlib.h>
+#include <string.h>
+
+enum { MAX_GROUPS = 32, MAX_RECORDS = 8192, MAX_POOL = 4000000, HEADER = 20, GROUP = 16, FULL_BYTES = 256 };
+
+struct group {
+    uint32_t name, name_length, first, count;
+};
+
+static struct group groups[MAX_GROUPS];
+static uint32_t group_count, record_count;
+static uint32_t records[MAX_RECORDS][FIELDS];
+static uint8_t pool[MAX_POOL];
+static size_t pool_length;
+
+static void fail(const char *what)
+{
+    fprintf(stderr, "make_vectors: %s\n", what);
+    exit(2);
+}
+
+/* ---- The pool ---- */
+
+/* The place of these bytes in the pool, where they stand already or are put. */
+static uint32_t keep(const void *bytes, size_t count)
+{
+    if (count == 0)
+        return 0;
+    const uint8_t *found = memmem(pool, pool_length, bytes, count);
+    if (found)
+        return (uint32_t)(found - pool);
+    if (pool_length + count > MAX_POOL)
+        fail("the pool is full");
+    memcpy(pool + pool_length, bytes, count);
+    pool_length += count;
+    return (uint32_t)(pool_length - count);
+}
+
+void keep_bytes(const void *bytes, size_t count)
+{
+    keep(bytes, count);
+}
+
+static void put_number(uint8_t *at, uint64_t number, int bytes)
+{
+    for (int i = 0; i < bytes; i++)
+        at[i] = (uint8_t)(number >> 8 * i);
+}
+
+static uint32_t keep_digest(const uint8_t *bytes, size_t count)
+{
+    uint64_t digest = 0xCBF29CE484222325u;
+    uint8_t stored[8];
+    for (size_t i = 0; i < count; i++)
+        digest = (digest ^ bytes[i]) * 0x100000001B3u;
+    put_number(stored, digest, 8);
+    return keep(stored, 8);
+}
+
+/* The expected contents of a buffer, in full or as a digest. */
+static uint32_t keep_contents(const void *bytes, size_t count, bool whole)
+{
+    return whole || count <= FULL_BYTES ? keep(bytes, count) : keep_digest(bytes, count);
+}
+
+/* Work memory as it was lent: the reference never touches it. */
+static uint32_t keep_lent_bytes(size_t count)
+{
+    uint8_t *bytes = malloc(count + 1);
+    for (size_t i = 0; i < count; i++)
+        bytes[i] = (uint8_t)(i % 251);
+    uint32_t at = keep_contents(bytes, count, false);
+    free(bytes);
+    return at;
+}
+
+static uint32_t keep_lent_words(size_t count)
+{
+    uint8_t *bytes = malloc(8 * count + 1);
+    for (size_t i = 0; i < count; i++)
+        put_number(bytes + 8 * i, 0xA5A5A5A500000000u + i % 65536, 8);
+    uint32_t at = keep_contents(bytes, 8 * count, false);
+    free(bytes);
+    return at;
+}
+
+/* ---- Records ---- */
+
+static size_t element_bytes(const struct vector *v, int input)
+{
+    bool words = v->call == CALL_SHIFT || v->call == CALL_TOTAL || v->call == CALL_DIFFERENCE;
+    bool numbers = (v->call == CALL_SERIES || v->call == CALL_MADE_SERIES || v->call == CALL_AREA) && input == 0;
+    return words ? 8 : numbers ? 4 : 1;
+}
+
+/* The made bytes hold the rasters: both inputs of a pair, the second of a series. */
+static bool is_made(const struct vector *v, int input)
+{
+    return v->call == CALL_MADE_PAIR ? input < 2 : v->call == CALL_MADE_SERIES && input == 1;
+}
+
+static uint32_t input_place(const struct vector *v, int input)
+{
+    if (is_made(v, input))
+        return (uint32_t)((const uint8_t *)v->in[input].data - (const uint8_t *)v->made.data);
+    return keep(v->in[input].data, v->in[input].length * element_bytes(v, input));
+}
+
+static void put_settings(const struct vector *v, uint32_t *record)
+{
+    record[FIELD_CALL] = v->call;
+    record[FIELD_W] = v->w;
+    record[FIELD_H] = v->h;
+    record[FIELD_S] = v->s;
+    record[FIELD_TOLERANCE] = v->tolerance;
+    record[FIELD_PERCENTILE] = v->percentile;
+    record[FIELD_N] = v->n;
+    record[FIELD_R] = v->r;
+    record[FIELD_DX] = (uint32_t)v->dx;
+    record[FIELD_DY] = (uint32_t)v->dy;
+}
+
+static int inputs_of(enum call call)
+{
+    return call == CALL_DIFFERENCE ? 4 : call == CALL_BRACKET ? 3 : call == CALL_PAIR || call == CALL_MADE_PAIR ||
+           call == CALL_SERIES || call == CALL_MADE_SERIES || call == CALL_BLINK ? 2 : 1;
+}
+
+static void put_slices(const struct vector *v, const struct answer *a, uint32_t *record)
+{
+    for (int i = 0; i < inputs_of(v->call); i++) {
+        record[FIELD_INPUT + 2 * i] = input_place(v, i);
+        record[FIELD_INPUT + 2 * i + 1] = (uint32_t)v->in[i].length;
+    }
+    for (int i = 0; i < 2; i++)
+        if (a->out[i]) {
+            record[FIELD_OUTPUT + 2 * i] = (uint32_t)(v->call == CALL_BRACKET ? a->out_bytes[i] : v->out[i]);
+            record[FIELD_OUTPUT + 2 * i + 1] = keep_contents(a->out[i], a->out_bytes[i], a->whole[i]);
+        }
+}
+
+static bool has_memory(enum call call)
+{
+    return call == CALL_PAIR || call == CALL_SERIES || call == CALL_MADE_PAIR || call == CALL_MADE_SERIES;
+}
+
+static void put_memory(const struct vector *v, uint32_t *record)
+{
+    record[FIELD_GREY] = (uint32_t)v->grey;
+    record[FIELD_GREY + 1] = keep_lent_bytes(v->grey);
+    record[FIELD_WORDS] = (uint32_t)v->words;
+    record[FIELD_WORDS + 1] = keep_lent_words(v->words);
+}
+
+static void put_made(const struct vector *v, uint32_t *record)
+{
+    record[FIELD_VALUES + 2] = (uint32_t)v->made.length;
+    record[FIELD_VALUES + 3] = v->made_rows;
+    record[FIELD_SCENE] = v->scene;
+}
+
+uint32_t add(const struct vector *v)
+{
+    if (record_count == MAX_RECORDS)
+        fail("too many records");
+    struct answer a = answer_of(v);
+    uint32_t *record = records[record_count++];
+    memset(record, 0, sizeof records[0]);
+    put_settings(v, record);
+    put_slices(v, &a, record);
+    record[FIELD_REFUSAL] = a.refusal;
+    for (int i = 0; i < MOST_VALUES; i++)
+        record[FIELD_VALUES + i] = a.refusal ? 0 : a.values[i];
+    if (has_memory(v->call))
+        put_memory(v, record);
+    if (v->call == CALL_MADE_PAIR || v->call == CALL_MADE_SERIES)
+        put_made(v, record);
+    groups[group_count - 1].count++;
+    free_answer(a);
+    return a.refusal;
+}
+
+/* ---- Files ---- */
+
+void begin_file(void)
+{
+    group_count = record_count = 0;
+    pool_length = 0;
+}
+
+void begin_group(const char *name)
+{
+    if (group_count == MAX_GROUPS)
+        fail("too many groups");
+    uint32_t place = keep(name, strlen(name));
+    groups[group_count++] = (struct group){ place, (uint32_t)strlen(name), record_count, 0 };
+}
+
+static void write_numbers(FILE *file, const uint32_t *numbers, size_t count)
+{
+    for (size_t i = 0; i < count; i++) {
+        uint8_t bytes[4];
+        put_number(bytes, numbers[i], 4);
+        fwrite(bytes, 1, 4, file);
+    }
+}
+
+void end_file(const char *directory, const char *name)
+{
+    char path[1024];
+    snprintf(path, sizeof path, "%s/%s", directory, name);
+    FILE *file = fopen(path, "wb");
+    if (!file)
+        fail(path);
+    uint32_t begin = HEADER + GROUP * group_count + 4 * FIELDS * record_count;
+    uint32_t header[4] = { group_count, record_count, begin, begin + (uint32_t)pool_length };
+    fwrite("MTBV", 1, 4, file);
+    write_numbers(file, header, 4);
+    for (uint32_t g = 0; g < group_count; g++)
+        write_numbers(file, &groups[g].name, 4);
+    for (uint32_t r = 0; r < record_count; r++)
+        write_numbers(file, records[r], FIELDS);
+    fwrite(pool, 1, pool_length, file);
+    if (fclose(file) != 0)
+        fail(path);
+    printf("%-14s %2u groups %5u records %8u bytes\n", name, group_count, record_count, header[3]);
+}

@@ -1,0 +1,94 @@
+/* Test vectors: a call with all that it is handed, answered by the reference and written down as a record. FORMAT.md has the
+ * format of the files. */
+#ifndef VECTORS_H
+#define VECTORS_H
+
+#include <stdbool.h>
+#include <stddef.h>
+#include <stdint.h>
+
+enum call {
+    CALL_GREY = 1,
+    CALL_HALVE,
+    CALL_THRESHOLD,
+    CALL_BITMAPS,
+    CALL_SHIFT,
+    CALL_TOTAL,
+    CALL_DIFFERENCE,
+    CALL_PAIR,
+    CALL_SERIES,
+    CALL_MADE_PAIR,
+    CALL_MADE_SERIES,
+    CALL_P6_READ,
+    CALL_P6_WRITE,
+    CALL_AREA,
+    CALL_MOVED,
+    CALL_BLINK,
+    CALL_BRACKET,
+};
+
+/* Numbers of a record. */
+enum field {
+    FIELD_CALL,
+    FIELD_REFUSAL,
+    FIELD_W,
+    FIELD_H,
+    FIELD_S,
+    FIELD_TOLERANCE,
+    FIELD_PERCENTILE,
+    FIELD_N,
+    FIELD_R,
+    FIELD_DX,
+    FIELD_DY,
+    FIELD_INPUT,              /* four times: place in the pool, length */
+    FIELD_OUTPUT = 19,        /* twice: length, place of the expected contents */
+    FIELD_GREY = 23,          /* work memory: length, place of the expected contents when refused */
+    FIELD_WORDS = 25,
+    FIELD_VALUES = 27,        /* four expected values */
+    FIELD_SCENE = 31,
+    FIELDS = 32,
+};
+
+/* A lent input: bytes, or numbers of 4 or 8 bytes. The length counts elements. */
+struct slice {
+    const void *data;
+    size_t length;
+};
+
+/* A call, with fields as in a record. Frames made by a formula also have all made bytes, their rows a frame and the scene. */
+struct vector {
+    enum call call;
+    uint32_t w, h, s, tolerance, percentile, n, r;
+    int32_t dx, dy;
+    struct slice in[4];
+    size_t out[2], grey, words;
+    struct slice made;
+    uint32_t made_rows, scene;
+};
+
+/* Gives every slice the length that the sizes and settings need, and where those are refused, that of small good ones. */
+void fit_lengths(struct vector *vector);
+
+enum { MOST_VALUES = 4 };
+
+/* What the reference answered: number, values, and the final contents of the outputs. */
+struct answer {
+    uint32_t refusal, values[MOST_VALUES];
+    void *out[2];
+    size_t out_bytes[2];
+    bool whole[2];            /* stored in full, however long */
+};
+
+struct answer answer_of(const struct vector *vector);
+void free_answer(struct answer answer);
+
+/* A file in the making: groups of records, one after another. */
+void begin_file(void);
+void begin_group(const char *name);
+/* Adds a record with the reference's answer, and gives the refusal number. */
+uint32_t add(const struct vector *vector);
+/* Puts bytes into the pool beforehand, so that records share parts of them. */
+void keep_bytes(const void *bytes, size_t count);
+void end_file(const char *directory, const char *name);
+
+#endif
