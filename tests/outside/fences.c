@@ -25,9 +25,11 @@ static void fail(const char *what)
 
 static void watch(void (*stopped)(int))
 {
+    static const int signals[] = { SIGSEGV, SIGBUS, SIGILL, SIGFPE, SIGABRT, SIGALRM };
     struct sigaction action = { .sa_handler = stopped };
-    if (sigaction(SIGSEGV, &action, NULL) || sigaction(SIGBUS, &action, NULL))
-        fail("sigaction");
+    for (size_t i = 0; i < sizeof signals / sizeof *signals; i++)
+        if (sigaction(signals[i], &action, NULL))
+            fail("sigaction");
 }
 
 void fences_open(void (*stopped)(int))

@@ -9,7 +9,7 @@
 
 enum { FENCE_SLOTS = 8 };
 
-/* Calls `stopped` when somebody has touched what is not lent. */
+/* Calls `stopped` when somebody touches what is not lent, or the run ends by another fault or by the alarm. */
 void fences_open(void (*stopped)(int signal));
 
 /* A block of this many bytes: against the inaccessible page at its end, else at its beginning. */

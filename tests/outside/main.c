@@ -5,12 +5,13 @@
 #include "../scenes.h"
 
 #include <inttypes.h>
+#include <signal.h>
 #include <stdio.h>
 #include <stdlib.h>
 #include <string.h>
 #include <unistd.h>
 
-enum { SHOWN = 10, PROGRESS_STEPS = 20, QUICK_CASES = 5, ROUNDS_FOR_ALL = 1000, MAX_CALLS = 32, NAME_ROOM = 64 };
+enum { SHOWN = 10, PROGRESS_STEPS = 20, QUICK_CASES = 5, ROUNDS_FOR_ALL = 1000, MAX_CALLS = 32, NAME_ROOM = 64, PATIENCE = 300 /* seconds */ };
 
 /* Ordinary trials; those of a given shape, at even numbers accepted, at odd ones refused; those with a slice longer than 2^32. */
 enum family { CASE, LARGE, WIDE, FAMILIES };
@@ -27,6 +28,7 @@ static const struct shape aligned_shapes[] = {
 static struct {
     uint64_t seed, rounds;
     const char *only;   /* the function to test, NULL for all */
+    bool without[FAMILIES];
     enum family family; /* with `single`: the one trial to make */
     bool single;
     uint64_t index;
@@ -55,8 +57,9 @@ static void print_reproduction(void)
 /* The handler of a fault; nothing can go on after one. */
 static void stopped(int signal)
 {
-    (void)signal;
-    printf("\n%s: touched memory that was not lent to it\n", now.call->name);
+    bool memory = signal == SIGSEGV || signal == SIGBUS;
+    printf("\n%s: %s\n", now.call->name,
+           memory ? "touched memory that was not lent to it" : signal == SIGALRM ? "did not end" : "broke off");
     print_reproduction();
     printf("stopped: %" PRIu64 " compared, %" PRIu64 " differ\n", tally.calls + 1, tally.differ + 1);
     fflush(stdout);
@@ -102,6 +105,8 @@ static bool aligns(const struct call *call)
 
 static uint64_t planned(const struct call *call, enum family family)
 {
+    if (options.without[family])
+        return 0;
     switch (family) {
     case CASE:
         return options.rounds * (aligns(call) ? 1 : QUICK_CASES);
@@ -144,6 +149,7 @@ static void try(const struct call *call, enum family family, uint64_t index)
     now.call = call;
     now.family = family;
     now.index = index;
+    alarm(PATIENCE);
     if (make(&trial)) {
         struct comparison comparison = compare(call, &trial);
         count(&trial, &comparison);
@@ -236,7 +242,7 @@ static int summary(void)
 
 static void usage(void)
 {
-    fprintf(stderr, "options: [--seed N] [--rounds N] [--only FUNCTION] [--case N | --large N | --wide N]\n");
+    fprintf(stderr, "options: [--seed N] [--rounds N] [--only FUNCTION] [--without large] [--case N | --large N | --wide N]\n");
     exit(2);
 }
 
@@ -249,16 +255,20 @@ static uint64_t number(const char *text)
     return value;
 }
 
-static void choose_single(const char *family, uint64_t index)
+static enum family family_named(const char *name)
 {
     for (int i = 0; i < FAMILIES; i++)
-        if (strcmp(family, family_names[i]) == 0) {
-            options.family = (enum family)i;
-            options.single = true;
-            options.index = index;
-        }
-    if (!options.single)
-        usage();
+        if (strcmp(name, family_names[i]) == 0)
+            return (enum family)i;
+    usage();
+    return CASE;
+}
+
+static void choose_single(const char *family, uint64_t index)
+{
+    options.family = family_named(family);
+    options.index = index;
+    options.single = true;
 }
 
 static void read_option(const char *name, const char *value)
@@ -269,6 +279,8 @@ static void read_option(const char *name, const char *value)
         options.rounds = number(value);
     else if (strcmp(name, "--only") == 0)
         options.only = value;
+    else if (strcmp(name, "--without") == 0)
+        options.without[family_named(value)] = true;
     else if (strncmp(name, "--", 2) == 0)
         choose_single(name + 2, number(value));
     else
