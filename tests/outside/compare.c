@@ -1,0 +1,164 @@
+/* One trial: both sides are asked, and all that they answer, write and leave alone is compared. */
+#include "compare.h"
+
+#include "../scenes.h"
+#include "contents.h"
+#include "fences.h"
+
+#include <inttypes.h>
+#include <stdio.h>
+#include <stdlib.h>
+#include <string.h>
+
+static uint64_t bytes_compared;
+
+static const struct library library = {
+    mtb_grey, mtb_halve, mtb_threshold, mtb_bitmaps, mtb_shift, mtb_total, mtb_difference, mtb_pair, mtb_series, mtb_p6_size,
+    mtb_p6_raster, mtb_p6_write, mtb_common_area, mtb_moved, mtb_blink_row, mtb_grey_needed, mtb_words_needed,
+};
+
+static const struct library reference = {
+    ref_grey, ref_halve, ref_threshold, ref_bitmaps, ref_shift, ref_total, ref_difference, ref_pair, ref_series, ref_p6_size,
+    ref_p6_raster, ref_p6_write, ref_common_area, ref_moved, ref_blink_row, ref_grey_needed, ref_words_needed,
+};
+
+/* ---- The two sides ---- */
+
+struct sides {
+    uint32_t ours, theirs;
+    struct lent library[MAX_SLICES], reference[MAX_SLICES];
+};
+
+static size_t slice_bytes(const struct slice *slice)
+{
+    return slice->length * slice->element;
+}
+
+static bool is_const(const struct slice *slice)
+{
+    return slice->role == INPUT || slice->role == GIVEN;
+}
+
+/* The library gets a fenced copy; the reference reads the inputs themselves and writes to a heap block of just the told size. */
+static void lend(const struct trial *t, int i, struct sides *sides)
+{
+    const struct slice *slice = &t->slice[i];
+    if (slice->same_as >= 0) {
+        sides->library[i] = sides->library[slice->same_as];
+        sides->reference[i] = sides->reference[slice->same_as];
+        return;
+    }
+    size_t bytes = slice_bytes(slice), told = slice->length + slice->unseen;
+    uint8_t *fenced = slice->unseen ? fences_lend_wide(i, bytes) : fences_lend(i, bytes, random_below(2));
+    memcpy(fenced, slice->before, bytes);
+    sides->library[i] = (struct lent){ fenced, told };
+    sides->reference[i] = (struct lent){ slice->before, told };
+    if (!is_const(slice)) {
+        sides->reference[i].at = memory(bytes);
+        memcpy(sides->reference[i].at, slice->before, bytes);
+    }
+}
+
+static void give_back(const struct trial *t, const struct sides *sides)
+{
+    for (int i = 0; i < t->slices; i++) {
+        if (!is_const(&t->slice[i]))
+            free(sides->reference[i].at);
+        if (t->slice[i].same_as < 0)
+            fences_release(i);
+    }
+}
+
+/* ---- Comparing ---- */
+
+/* The first byte, from `begin` on, where the two differ; `bytes` where none does. */
+static size_t first_unequal(const uint8_t *one, const uint8_t *other, size_t begin, size_t bytes)
+{
+    bytes_compared += bytes - begin;
+    if (memcmp(one + begin, other + begin, bytes - begin) == 0)
+        return bytes;
+    size_t at = begin;
+    while (one[at] == other[at])
+        at++;
+    return at;
+}
+
+/* Writes what is wrong with byte `at` and tells that there is something. */
+static bool mismatch_at(char *mismatch, const struct slice *slice, const char *what, const uint8_t *one, const uint8_t *other, size_t at)
+{
+    snprintf(mismatch, MISMATCH_ROOM, "%s %s: byte %zu of element %zu is %u, not %u", slice->name, what, at % slice->element,
+             at / slice->element, one[at], other[at]);
+    return true;
+}
+
+static bool changed(char *mismatch, const struct slice *slice, const uint8_t *now, size_t begin, const char *what)
+{
+    size_t bytes = slice_bytes(slice), at = first_unequal(now, slice->before, begin, bytes);
+    return at < bytes && mismatch_at(mismatch, slice, what, now, slice->before, at);
+}
+
+/* An output after acceptance: whole as the reference's, and its excess as before. */
+static bool wrong_output(char *mismatch, const struct slice *slice, const uint8_t *ours, const uint8_t *theirs)
+{
+    size_t bytes = slice_bytes(slice), at = first_unequal(ours, theirs, 0, bytes);
+    if (at < bytes)
+        return mismatch_at(mismatch, slice, "is not the reference's", ours, theirs, at);
+    return changed(mismatch, slice, ours, slice->needed * slice->element, "was changed past what is needed");
+}
+
+static bool wrong_slice(char *mismatch, const struct slice *slice, bool accepted, const uint8_t *ours, const uint8_t *theirs)
+{
+    if (is_const(slice))
+        return changed(mismatch, slice, ours, 0, "is an input and was changed");
+    if (!accepted)
+        return changed(mismatch, slice, ours, 0, "was changed by a refused call") ||
+               changed(mismatch, slice, theirs, 0, "was changed by the reference, which refused");
+    return slice->role != WORK && wrong_output(mismatch, slice, ours, theirs);
+}
+
+static bool wrong_answer(char *mismatch, const struct trial *t, const struct sides *sides)
+{
+    if (sides->ours != sides->theirs)
+        snprintf(mismatch, MISMATCH_ROOM, "answers %" PRIu32 ", the reference %" PRIu32, sides->ours, sides->theirs);
+    else if (t->expected != UNKNOWN && t->expected != sides->ours)
+        snprintf(mismatch, MISMATCH_ROOM, "both answer %" PRIu32 ", but %" PRIu32 " was wanted", sides->ours, t->expected);
+    else
+        return false;
+    return true;
+}
+
+static bool guards_written(char *mismatch, const struct trial *t)
+{
+    for (int i = 0; i < t->slices; i++)
+        if (t->slice[i].same_as < 0 && !fences_intact(i)) {
+            snprintf(mismatch, MISMATCH_ROOM, "guard bytes beside %s were written", t->slice[i].name);
+            return true;
+        }
+    return false;
+}
+
+static bool differs(char *mismatch, const struct trial *t, const struct sides *sides)
+{
+    if (wrong_answer(mismatch, t, sides) || guards_written(mismatch, t))
+        return true;
+    for (int i = 0; i < t->slices; i++)
+        if (t->slice[i].same_as < 0 && wrong_slice(mismatch, &t->slice[i], sides->ours == 0, sides->library[i].at, sides->reference[i].at))
+            return true;
+    return false;
+}
+
+struct comparison compare(const struct call *call, const struct trial *t)
+{
+    struct sides sides;
+    struct comparison result;
+    bytes_compared = 0;
+    for (int i = 0; i < t->slices; i++)
+        lend(t, i, &sides);
+    sides.ours = call->ask(&library, &t->told, sides.library);
+    sides.theirs = call->ask(&reference, &t->told, sides.reference);
+    result.differs = differs(result.mismatch, t, &sides);
+    result.answer = sides.ours;
+    result.bytes = bytes_compared;
+    give_back(t, &sides);
+    return result;
+}

@@ -1,0 +1,174 @@
+/* What is wanted of a trial, and the lengths and contents of its slices. */
+#include "trial.h"
+
+#include "../scenes.h"
+#include "contents.h"
+
+#include <stdlib.h>
+#include <string.h>
+
+/* ---- Which refusals are to apply ---- */
+
+static int refusals_of(const struct call *call)
+{
+    return (int)strlen((const char *)call->refusals);
+}
+
+static uint32_t lowest_wanted(const struct trial *t)
+{
+    for (uint32_t number = 1; number < REFUSALS; number++)
+        if (t->want[number])
+            return number;
+    return 0;
+}
+
+/* One refusal, or several at once. */
+static void want_refusals(struct trial *t, const struct call *call)
+{
+    int all = refusals_of(call);
+    t->want[call->refusals[random_below((uint32_t)all)]] = true;
+    if (random_below(2))
+        return;
+    for (int i = 0; i < all; i++)
+        if (random_below(3) == 0)
+            t->want[call->refusals[i]] = true;
+}
+
+/* ---- Lengths ---- */
+
+struct slice *add_slice(struct trial *t, enum role role, const char *name, size_t element, size_t needed)
+{
+    struct slice *slice = &t->slice[t->slices++];
+    *slice = (struct slice){ .name = name, .role = role, .element = element, .needed = needed, .length = needed, .same_as = -1 };
+    return slice;
+}
+
+static size_t short_length(size_t needed)
+{
+    const size_t lengths[] = { 0, needed - 1, needed - 1, needed / 2, random_bits() % needed };
+    return lengths[random_below(5)];
+}
+
+static size_t wrong_length(size_t needed)
+{
+    const size_t longer[] = { needed + 1, needed + 1 + random_below(70), 2 * needed + 1 };
+    return needed > 0 && random_below(2) ? short_length(needed) : longer[random_below(3)];
+}
+
+/* An output or work memory may be longer than needed. */
+static size_t ample_length(size_t needed)
+{
+    return random_below(3) ? needed : needed + 1 + random_below(random_below(8) ? 9 : 2000);
+}
+
+static void spoil_length(struct slice *slice)
+{
+    slice->length = slice->role == INPUT ? wrong_length(slice->needed) : short_length(slice->needed);
+}
+
+static bool can_spoil(const struct slice *slice, enum role role)
+{
+    return slice->role == role && (role == INPUT || slice->needed > 0);
+}
+
+/* Spoils the length of one slice of this role, and perhaps of others. */
+static void spoil_lengths(struct trial *t, enum role role)
+{
+    int able = 0;
+    for (int i = 0; i < t->slices; i++)
+        able += can_spoil(&t->slice[i], role);
+    int chosen = able ? (int)random_below((uint32_t)able) : 0;
+    for (int i = 0; i < t->slices; i++)
+        if (can_spoil(&t->slice[i], role) && (chosen-- == 0 || random_below(3) == 0))
+            spoil_length(&t->slice[i]);
+}
+
+static void choose_lengths(struct trial *t)
+{
+    for (int i = 0; i < t->slices; i++)
+        if (t->slice[i].role == OUTPUT || t->slice[i].role == WORK)
+            t->slice[i].length = ample_length(t->slice[i].needed);
+    if (t->want[9])
+        spoil_lengths(t, INPUT);
+    if (t->want[10])
+        spoil_lengths(t, OUTPUT);
+    if (t->want[11])
+        spoil_lengths(t, WORK);
+}
+
+/* A length that 32 bits would cut off to a good one of an input, to a short one of others. */
+static void widen(struct trial *t, const struct call *call, struct slice *slice)
+{
+    slice->unseen = (size_t)1 << 32;
+    if (slice->role == INPUT || slice->role == GIVEN)
+        t->want[slice->role == GIVEN && tests_refusal(call, 8) ? 8 : 9] = true;
+    else if (slice->needed > 0)
+        slice->unseen -= 1 + random_below((uint32_t)slice->needed);
+}
+
+/* ---- Contents ---- */
+
+/* Inputs may be the same: now and then a later one is lent the memory of an earlier one. */
+static void share_inputs(struct trial *t)
+{
+    for (int i = 1; i < t->slices; i++) {
+        const struct slice *earlier = &t->slice[random_below((uint32_t)i)];
+        if (t->slice[i].role == INPUT && earlier->role == INPUT && earlier->same_as < 0 && earlier->element == t->slice[i].element &&
+            earlier->length == t->slice[i].length && random_below(8) == 0)
+            t->slice[i].same_as = (int)(earlier - t->slice);
+    }
+}
+
+/* The made contents, cut off or followed by anything; a heap block of just the told length, so that the sanitizer sees each step
+ * of the reference past its end. */
+static void fill_slice(struct slice *slice)
+{
+    size_t told = slice->length * slice->element, made = slice->made ? slice->needed * slice->element : 0;
+    size_t kept = made < told ? made : told;
+    slice->before = memory(told);
+    if (kept > 0)
+        memcpy(slice->before, slice->made, kept);
+    random_fill(slice->before + kept, told - kept);
+    free(slice->made);
+    slice->made = NULL;
+}
+
+static void fill_slices(struct trial *t)
+{
+    for (int i = 0; i < t->slices; i++)
+        fill_slice(&t->slice[i]);
+}
+
+void make_trial(struct trial *t, const struct call *call, const struct shape *large, bool refused)
+{
+    memset(t, 0, sizeof *t);
+    t->correct_file = large != NULL;
+    if (refused && call->plan != CHANCE)
+        want_refusals(t, call);
+    choose_numbers(t, call, large);
+    call->slices(t);
+    choose_lengths(t);
+    share_inputs(t);
+    fill_slices(t);
+    t->expected = call->plan == WANTED ? lowest_wanted(t) : UNKNOWN;
+}
+
+bool make_wide_trial(struct trial *t, const struct call *call, int slice)
+{
+    memset(t, 0, sizeof *t);
+    t->correct_file = true;
+    choose_numbers(t, call, NULL);
+    call->slices(t);
+    bool able = slice < t->slices && t->slice[slice].role != RESULT;
+    if (able)
+        widen(t, call, &t->slice[slice]);
+    fill_slices(t);
+    t->expected = lowest_wanted(t);
+    return able;
+}
+
+void free_trial(struct trial *t)
+{
+    for (int i = 0; i < t->slices; i++)
+        free(t->slice[i].before);
+}

@@ -1,0 +1,108 @@
+/* A trial: one call with all that it is given, made from random numbers, to be asked of the library and of the reference. */
+#ifndef TRIAL_H
+#define TRIAL_H
+
+#include "mtb.h"
+#include "reference.h"
+
+#include <stdbool.h>
+#include <stddef.h>
+#include <stdint.h>
+
+enum { MAX_SLICES = 7, REFUSALS = 15, MAX_SIDE = 4096, MAX_HALVINGS = 8, MAX_TOLERANCE = 64, MAX_FRAMES = 16 };
+
+#define UNKNOWN UINT32_MAX
+
+/* Every number that some call takes. */
+struct numbers {
+    uint32_t w, h, s, tolerance, percentile, n, r, y;
+    int32_t dx, dy;
+    uint8_t threshold;
+    bool second;
+};
+
+/* Of an input the length is tested by refusal 9, of a given one by none. A result is a number behind a pointer. */
+enum role { INPUT, GIVEN, OUTPUT, RESULT, WORK };
+
+struct slice {
+    const char *name;
+    enum role role;
+    size_t element; /* its bytes */
+    size_t needed;  /* elements that an accepted call reads or writes */
+    size_t length;  /* elements told, */
+    size_t unseen;  /* and further ones told that are there but hold nothing of interest: more than 32 bits can tell */
+    int same_as;    /* the earlier input that is lent here again, or -1 */
+    uint8_t *made;  /* contents of the needed elements; NULL where any will do */
+    uint8_t *before; /* what the elements hold before the call */
+};
+
+struct trial {
+    struct numbers told;
+    struct numbers made_for; /* the numbers that the buffers suit: those told, but not where these ask for too much memory */
+    bool correct_file;       /* a P6 file is one that the writer makes */
+    bool want[REFUSALS];     /* the refusals that are to apply */
+    uint32_t expected;       /* the lowest of them, 0 for none; or UNKNOWN */
+    int slices;
+    struct slice slice[MAX_SLICES];
+};
+
+/* A slice as one of the two gets it. */
+struct lent {
+    void *at;
+    size_t length;
+};
+
+/* The two implementations, as tables of the same functions. */
+struct library {
+    __typeof__(mtb_grey) *grey;
+    __typeof__(mtb_halve) *halve;
+    __typeof__(mtb_threshold) *threshold;
+    __typeof__(mtb_bitmaps) *bitmaps;
+    __typeof__(mtb_shift) *shift;
+    __typeof__(mtb_total) *total;
+    __typeof__(mtb_difference) *difference;
+    __typeof__(mtb_pair) *pair;
+    __typeof__(mtb_series) *series;
+    __typeof__(mtb_p6_size) *p6_size;
+    __typeof__(mtb_p6_raster) *p6_raster;
+    __typeof__(mtb_p6_write) *p6_write;
+    __typeof__(mtb_common_area) *common_area;
+    __typeof__(mtb_moved) *moved;
+    __typeof__(mtb_blink_row) *blink_row;
+    __typeof__(mtb_grey_needed) *grey_needed;
+    __typeof__(mtb_words_needed) *words_needed;
+};
+
+/* How a call's refusals come about: wanted, so that the answer is known before; wanted, of a call that answers no number; by chance. */
+enum plan { WANTED, UNTOLD, CHANCE };
+
+struct call {
+    const char *name;
+    enum plan plan;
+    void (*slices)(struct trial *); /* adds the call's slices, in the order of its arguments */
+    uint32_t (*ask)(const struct library *, const struct numbers *, const struct lent *);
+    uint8_t refusals[12]; /* those that it tests, 0 after the last */
+};
+
+extern const struct call calls[];
+extern const int call_count;
+
+/* A large trial's sizes; for the calls that align, s and n too. */
+struct shape {
+    uint32_t w, h, s, n;
+};
+
+bool tests_refusal(const struct call *call, uint32_t number);
+
+/* numbers.c: numbers that none but the wanted refusals apply to; `large` is NULL for an ordinary trial. */
+void choose_numbers(struct trial *trial, const struct call *call, const struct shape *large);
+
+/* trial.c */
+struct slice *add_slice(struct trial *trial, enum role role, const char *name, size_t element, size_t needed);
+void make_trial(struct trial *trial, const struct call *call, const struct shape *large, bool refused);
+
+/* A trial with nothing special but one slice that is told longer than 32 bits can tell. False: there is no such slice. */
+bool make_wide_trial(struct trial *trial, const struct call *call, int slice);
+void free_trial(struct trial *trial);
+
+#endif
