@@ -1,11 +1,12 @@
 /* A careful C program of the same rules, written for speed: plain C for the same instruction set as the archive
  * (x86-64 with SSE2), loops that the compiler can take many bytes at a time, one pass for each step, bitmaps in
- * words of 64 pixels, shifted while they are compared, 1 bits added from the table of bytes. It tests no input. */
+ * words of 64 pixels, shifted while they are compared, 1 bits added from the table of bytes. It tests no input.
+ * (Bytes are read as words of a little-endian machine.) */
 #include "careful.h"
 
 #include <string.h>
 
-enum { WORD_BITS = 64, CANDIDATES = 9, GREYS = 256 };
+enum { WORD_BITS = 64, CANDIDATES = 9, GREYS = 256, TWOS = 16 };
 
 /* A step is kept a function of its own, so that a profile tells it apart. */
 #define STEP __attribute__((noinline)) static
@@ -37,9 +38,31 @@ static struct size size_of(uint32_t w, uint32_t h)
     return z;
 }
 
-STEP void to_grey(const uint8_t *restrict raster, size_t n, uint8_t *restrict grey)
+/* 32 pixels at a time: 16 twos, each of them three numbers of 16 bits (RG, BR, GB), which take no more than 16 bits
+ * when weighted and need no byte to be moved. */
+static void grey_block(const uint8_t *restrict raster, uint8_t *restrict grey)
 {
-    for (size_t i = 0; i < n; i++)
+    uint16_t halves[3 * TWOS], rg[TWOS], br[TWOS], gb[TWOS], out[TWOS];
+    memcpy(halves, raster, sizeof halves);
+    for (int k = 0; k < TWOS; k++) {
+        rg[k] = halves[3 * k];
+        br[k] = halves[3 * k + 1];
+        gb[k] = halves[3 * k + 2];
+    }
+    for (int k = 0; k < TWOS; k++) {
+        uint16_t left = (uint16_t)(54 * (rg[k] & 255) + 183 * (rg[k] >> 8) + 19 * (br[k] & 255));
+        uint16_t right = (uint16_t)(54 * (br[k] >> 8) + 183 * (gb[k] & 255) + 19 * (gb[k] >> 8));
+        out[k] = (uint16_t)(left >> 8 | (right & 0xFF00));
+    }
+    memcpy(grey, out, sizeof out);
+}
+
+STEP void to_grey(const uint8_t *raster, size_t n, uint8_t *grey)
+{
+    size_t i = 0;
+    for (; i + 2 * TWOS <= n; i += 2 * TWOS)
+        grey_block(raster + 3 * i, grey + i);
+    for (; i < n; i++)
         grey[i] = (uint8_t)((54u * raster[3 * i] + 183u * raster[3 * i + 1] + 19u * raster[3 * i + 2]) >> 8);
 }
 
@@ -70,21 +93,17 @@ static uint64_t load_word(const uint8_t *bytes)
     return v;
 }
 
-/* Eight pixels a turn into four tables in turn, so that equal neighbours do not wait for each other. */
+/* Four pixels a turn into four tables, so that equal neighbours do not wait for each other. */
 static void histogram(const uint8_t *grey, size_t n, uint32_t counts[GREYS])
 {
-    uint32_t part[4][GREYS] = {{0}};
+    uint32_t part[4][GREYS] = {{0}}, v;
     size_t i = 0;
-    for (; i + 8 <= n; i += 8) {
-        uint64_t v = load_word(grey + i);
+    for (; i + sizeof v <= n; i += sizeof v) {
+        memcpy(&v, grey + i, sizeof v);
         part[0][v & 255]++;
         part[1][v >> 8 & 255]++;
         part[2][v >> 16 & 255]++;
-        part[3][v >> 24 & 255]++;
-        part[0][v >> 32 & 255]++;
-        part[1][v >> 40 & 255]++;
-        part[2][v >> 48 & 255]++;
-        part[3][v >> 56]++;
+        part[3][v >> 24]++;
     }
     for (; i < n; i++)
         part[0][grey[i]]++;
@@ -112,16 +131,21 @@ static uint64_t exchange(uint64_t v, uint64_t mask, unsigned s)
     return v ^ t ^ t << s;
 }
 
-/* 64 pixels as one word, bit i for pixel i: 1 where the grey value less `low` (as a byte, round the end) is above
- * `span`. 16 bytes hold the flags of four times 16 pixels at bits 0, 2, 4, 6; both halves laid over each other are
- * the word as 8 by 8 bits by columns, and three exchanges turn columns into rows. */
+/* The place of pixel i among the columns of a word: its byte is i % 8, its bit i / 8. */
+#define EIGHT(v) v, v, v, v, v, v, v, v
+static const uint8_t COLUMN[WORD_BITS] = {EIGHT(1), EIGHT(2), EIGHT(4), EIGHT(8), EIGHT(16), EIGHT(32), EIGHT(64), EIGHT(128)};
+
+/* 64 pixels as one word, bit i for pixel i: 1 where the grey value less `low` (a byte, round the end) is above `span`.
+ * The flags laid over each other are the word as 8 by 8 bits by columns; three exchanges turn columns into rows.
+ * (Whether the greater of the two is `span` is one instruction for 16 bytes; `>` on bytes is none.) */
 static uint64_t pack_word(const uint8_t *restrict grey, uint8_t low, uint8_t span)
 {
-    uint8_t flags[16] = {0};
-    for (int k = 0; k < 4; k++)
-        for (int i = 0; i < 16; i++)
-            flags[i] |= (uint8_t)(grey[16 * k + i] - low) > span ? (uint8_t)(1 << 2 * k) : 0;
-    uint64_t v = load_word(flags) | load_word(flags + 8) << 1;
+    uint8_t flags[WORD_BITS];
+    uint64_t v = 0;
+    for (int i = 0; i < WORD_BITS; i++)
+        flags[i] = (uint8_t)-(most((uint8_t)(grey[i] - low), span) != span) & COLUMN[i];
+    for (int k = 0; k < WORD_BITS; k += 8)
+        v |= load_word(flags + k);
     v = exchange(v, 0x00AA00AA00AA00AAu, 7);
     v = exchange(v, 0x0000CCCC0000CCCCu, 14);
     return exchange(v, 0x00000000F0F0F0F0u, 28);
@@ -163,8 +187,8 @@ static uint32_t ones(uint64_t v)
 /* The differing pixels of one word: kept by both exclusion words, threshold bits unequal. */
 static uint32_t differing(uint64_t t1, uint64_t e1, uint64_t t2, uint64_t e2)
 {
-    uint64_t v = (t1 ^ t2) & e1 & e2;
-    return v == 0 ? 0 : ones(v);
+    uint64_t kept = e1 & e2;
+    return kept == 0 ? 0 : ones((t1 ^ t2) & kept);
 }
 
 /* Words of a row against the words of another one, as they stand. */
