@@ -93,18 +93,14 @@ static uint64_t load_word(const uint8_t *bytes)
     return v;
 }
 
-/* Four pixels a turn into four tables, so that equal neighbours do not wait for each other. */
+/* Four tables in turn, so that equal neighbours do not wait for each other. */
 static void histogram(const uint8_t *grey, size_t n, uint32_t counts[GREYS])
 {
-    uint32_t part[4][GREYS] = {{0}}, v;
+    uint32_t part[4][GREYS] = {{0}};
     size_t i = 0;
-    for (; i + sizeof v <= n; i += sizeof v) {
-        memcpy(&v, grey + i, sizeof v);
-        part[0][v & 255]++;
-        part[1][v >> 8 & 255]++;
-        part[2][v >> 16 & 255]++;
-        part[3][v >> 24]++;
-    }
+    for (; i + 8 <= n; i += 8)
+        for (size_t k = 0; k < 8; k++)
+            part[k % 4][grey[i + k]]++;
     for (; i < n; i++)
         part[0][grey[i]]++;
     for (int k = 0; k < GREYS; k++)

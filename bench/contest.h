@@ -42,9 +42,9 @@ struct contestant {
 extern const struct contestant contestants[];
 extern const size_t contestants_len;
 
-/* OpenCV's AlignMTB, where it is installed. */
+/* OpenCV's AlignMTB, where it is installed; its version, and the instruction sets that it takes code for. */
 aligner opencv_align;
-const char *opencv_version(void);
+const char *opencv_about(void);
 
 #ifdef __cplusplus
 }

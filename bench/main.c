@@ -1,11 +1,17 @@
 /* The contest: who aligns the same frames in what time. One thread, contestants in turns, CPU time.
  *
- *   contest agree PAIRS           compares the library with the careful C program on random small frames
- *   contest time                  times every job, a line each contestant, on standard output
+ *   contest about                 what is to be said of the contestants
+ *   contest agree JOBS            compares the library with the careful C program on random small frames
+ *   contest time                  times every job, a line each contestant; freed memory is kept
+ *   contest default W H S         times one pair; freed memory goes back as the C library does by itself
  *   contest once NAME W H S       one pair by one contestant inside `measured`, for callgrind
+ *
+ * Results go to standard output, as words with tabs between.
  */
 #define _POSIX_C_SOURCE 200809L
 
+#include <limits.h>
+#include <malloc.h>
 #include <stdio.h>
 #include <stdlib.h>
 #include <string.h>
@@ -14,7 +20,7 @@
 #include "contest.h"
 #include "scene.h"
 
-enum { SEED = 2024, TOLERANCE = 4, PERCENTILE = 50, ALIGNMENT = 64, MAX_TURNS = 101, LEAST_TURNS = 15 };
+enum { SEED = 2024, TOLERANCE = 4, PERCENTILE = 50, ALIGNMENT = 64, MAX_TURNS = 101, LEAST_TURNS = 15, MAX_CONTESTANTS = 4 };
 
 /* What a timed job shows: the made scene, or random bytes, in which no word of a bitmap is empty. */
 enum content { SCENE, NOISE };
@@ -165,35 +171,67 @@ static uint32_t turns_for(const struct job *j)
     return turns < LEAST_TURNS ? LEAST_TURNS : (uint32_t)turns | 1;
 }
 
+/* Freed memory stays with the process. OpenCV allocates its matrices anew in each call; by itself the C library
+ * gives them back to the kernel, which clears every page again: up to half of OpenCV's time, and none of its work. */
+static void keep_memory(void)
+{
+    if (!mallopt(M_MMAP_MAX, 0) || !mallopt(M_TRIM_THRESHOLD, INT_MAX))
+        fail("mallopt");
+}
+
 /* A line each contestant: the job, the name, median and least time, turns, the last frame's offset. */
-static void print_line(const struct job *j, enum content content, const struct contestant *c, uint64_t *times,
-                       uint32_t turns, const struct answer *a)
+static void print_line(const char *kind, const struct job *j, enum content content, const struct contestant *c,
+                       uint64_t *times, uint32_t turns, const struct answer *a)
 {
     qsort(times, turns, sizeof times[0], ascending);
-    printf("time\t%s\t%u\t%u\t%u\t%u\t%s\t%llu\t%llu\t%u\t%d\t%d\n", content == SCENE ? "scene" : "noise", j->w, j->h,
-           j->n, j->s, c->name, (unsigned long long)times[turns / 2], (unsigned long long)times[0], turns,
+    printf("%s\t%s\t%u\t%u\t%u\t%u\t%s\t%llu\t%llu\t%u\t%d\t%d\n", kind, content == SCENE ? "scene" : "noise", j->w,
+           j->h, j->n, j->s, c->name, (unsigned long long)times[turns / 2], (unsigned long long)times[0], turns,
            a->offsets[2 * j->n - 2], a->offsets[2 * j->n - 1]);
     fflush(stdout);
 }
 
-static void time_job(struct job j, enum content content)
+/* Reads the frames once, so that each contestant finds the caches alike, whoever went before it. */
+static void read_frames(const struct job *j)
 {
-    static struct answer answers[8];
-    static uint64_t times[8][MAX_TURNS];
-    uint32_t turns = turns_for(&j);
+    uint8_t sum = 0;
+    for (size_t i = 0; i < j->n * raster_bytes(j); i++)
+        sum ^= j->rasters[i];
+    __asm__ volatile("" : : "r"(sum)); /* so that the loop is not left out */
+}
+
+/* One turn: every contestant once, in an order of its own. */
+static void take_turn(const struct job *j, const struct memory *m, struct answer answers[],
+                      uint64_t times[][MAX_TURNS], uint32_t turn, uint32_t *state)
+{
+    size_t order[MAX_CONTESTANTS] = {0};
+    for (size_t k = 0; k < contestants_len; k++) { /* shuffled while it is filled */
+        size_t at = scene_random(state) % (k + 1);
+        order[k] = order[at];
+        order[at] = k;
+    }
+    for (size_t k = 0; k < contestants_len; k++) {
+        size_t c = order[k];
+        read_frames(j);
+        uint64_t start = cpu_ns();
+        contestants[c].run(j, m, &answers[c]);
+        times[c][turn] = cpu_ns() - start;
+    }
+}
+
+static void time_job(const char *kind, struct job j, enum content content)
+{
+    static struct answer answers[MAX_CONTESTANTS];
+    static uint64_t times[MAX_CONTESTANTS][MAX_TURNS];
+    uint32_t turns = turns_for(&j), state = SEED;
     uint8_t *rasters = frames(&j, content, SEED);
     struct memory m = lend(&j);
     j.rasters = rasters;
-    fprintf(stderr, "%u by %u, s = %u, %u frames, %u turns\n", j.w, j.h, j.s, j.n, turns);
+    fprintf(stderr, "%s: %u by %u, s = %u, %u frames, %u turns\n", kind, j.w, j.h, j.s, j.n, turns);
     compare(&j, &m, answers);
     for (uint32_t turn = 0; turn < turns; turn++)
-        for (size_t c = 0; c < contestants_len; c++) {
-            uint64_t start = cpu_ns();
-            contestants[c].run(&j, &m, &answers[c]);
-            times[c][turn] = cpu_ns() - start;
-        }
+        take_turn(&j, &m, answers, times, turn, &state);
     for (size_t c = 0; c < contestants_len; c++)
-        print_line(&j, content, &contestants[c], times[c], turns, &answers[c]);
+        print_line(kind, &j, content, &contestants[c], times[c], turns, &answers[c]);
     free(rasters);
     give_back(&m);
 }
@@ -202,14 +240,15 @@ static void time_all(void)
 {
     static const uint32_t sizes[][2] = {{640, 480},   {1024, 768},  {1366, 768}, {1920, 1080},
                                         {2560, 1440}, {3840, 2160}, {4096, 4096}};
+    keep_memory();
     for (size_t k = 0; k < sizeof sizes / sizeof sizes[0]; k++)
-        time_job(job_of(sizes[k][0], sizes[k][1], 6, 2), SCENE);
-    time_job(job_of(1920, 1080, 6, 2), NOISE);
+        time_job("time", job_of(sizes[k][0], sizes[k][1], 6, 2), SCENE);
+    time_job("time", job_of(1920, 1080, 6, 2), NOISE);
     for (uint32_t s = 0; s < MAX_LEVELS; s++)
         if (s != 6) /* timed above */
-            time_job(job_of(1920, 1080, s, 2), SCENE);
-    time_job(job_of(640, 480, 6, 9), SCENE);
-    time_job(job_of(1920, 1080, 6, 9), SCENE);
+            time_job("time", job_of(1920, 1080, s, 2), SCENE);
+    time_job("time", job_of(640, 480, 6, 9), SCENE);
+    time_job("time", job_of(1920, 1080, 6, 9), SCENE);
 }
 
 /* ---- once ---- */
@@ -234,15 +273,29 @@ static void once(const char *name, uint32_t w, uint32_t h, uint32_t s)
     give_back(&m);
 }
 
+static void about(void)
+{
+#ifdef WITH_OPENCV
+    printf("fact\tOpenCV\t%s\n", opencv_about());
+#endif
+}
+
+static uint32_t number(const char *word) { return (uint32_t)strtoul(word, NULL, 10); }
+
 int main(int argc, char **argv)
 {
-    if (argc == 3 && strcmp(argv[1], "agree") == 0)
-        agree((uint32_t)atoi(argv[2]));
-    else if (argc == 2 && strcmp(argv[1], "time") == 0)
+    const char *mode = argc > 1 ? argv[1] : "";
+    if (argc == 2 && strcmp(mode, "about") == 0)
+        about();
+    else if (argc == 3 && strcmp(mode, "agree") == 0)
+        agree(number(argv[2]));
+    else if (argc == 2 && strcmp(mode, "time") == 0)
         time_all();
-    else if (argc == 6 && strcmp(argv[1], "once") == 0)
-        once(argv[2], (uint32_t)atoi(argv[3]), (uint32_t)atoi(argv[4]), (uint32_t)atoi(argv[5]));
+    else if (argc == 5 && strcmp(mode, "default") == 0)
+        time_job("default", job_of(number(argv[2]), number(argv[3]), number(argv[4]), 2), SCENE);
+    else if (argc == 6 && strcmp(mode, "once") == 0)
+        once(argv[2], number(argv[3]), number(argv[4]), number(argv[5]));
     else
-        fail("usage: contest agree JOBS | time | once NAME W H S");
+        fail("usage: contest about | agree JOBS | time | default W H S | once NAME W H S");
     return 0;
 }

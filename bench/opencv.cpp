@@ -2,13 +2,19 @@
 // neighbouring pair. Its max_bits is the number of levels.
 #include "contest.h"
 
+#include <string>
 #include <vector>
 
 #include <opencv2/core.hpp>
+#include <opencv2/core/utility.hpp>
 #include <opencv2/imgproc.hpp>
 #include <opencv2/photo.hpp>
 
-const char *opencv_version(void) { return CV_VERSION; }
+const char *opencv_about(void)
+{
+    static const std::string text = std::string(CV_VERSION ", takes code for ") + cv::getCPUFeaturesLine();
+    return text.c_str();
+}
 
 void opencv_align(const struct job *j, const struct memory *, struct answer *a)
 {

@@ -32,10 +32,11 @@ Time = namedtuple("Time", "median least turns offset")  # milliseconds; the last
 
 
 class Results:
-    """What was measured: times[job][name], facts, agreement, and the profiles."""
+    """What was measured: times[job][name] with freed memory kept, default[job][name] with the C library's own ways,
+    facts, agreement, and the profiles."""
 
     def __init__(self, folder):
-        self.times, self.facts, self.agreed = {}, {}, (0, 0)
+        self.times, self.default, self.facts, self.agreed = {}, {}, {}, (0, 0)
         with open(os.path.join(folder, "results.tsv")) as lines:
             for line in lines:
                 self.take(line.rstrip("\n").split("\t"))
@@ -47,16 +48,16 @@ class Results:
             self.facts[words[1]] = words[2]
         elif kind == "agree":
             self.agreed = (int(words[1]), int(words[2]))
-        elif kind == "time":
+        elif kind in ("time", "default"):
             w, h, n, s = map(int, words[2:6])
             median, least = (int(v) / 1e6 for v in words[7:9])
             offset = (int(words[10]), int(words[11]))
-            self.times.setdefault(Job(words[1], w, h, n, s), {})[words[6]] = Time(median, least, int(words[9]), offset)
+            table = self.times if kind == "time" else self.default
+            table.setdefault(Job(words[1], w, h, n, s), {})[words[6]] = Time(median, least, int(words[9]), offset)
 
     def ratio(self, job, a, b):
         """How many times b's median time a takes; None where one was not timed."""
-        times = self.times[job]
-        return times[a].median / times[b].median if a in times and b in times else None
+        return ratio(self.times[job], a, b)
 
     def pairs(self):
         """The pairs of the scene at s = 6, by size."""
@@ -65,6 +66,10 @@ class Results:
     def by_s(self):
         """The pairs of one size at every s."""
         return sorted((j for j in self.times if j.content == "scene" and j.n == 2 and (j.w, j.h) == (1920, 1080)), key=lambda j: j.s)
+
+
+def ratio(times, a, b):
+    return times[a].median / times[b].median if a in times and b in times else None
 
 
 def pixels(job):
@@ -156,54 +161,64 @@ def instruction_table(results):
     rows = [[step, *(f"{counted[name][step]:.2f}" for name in counted)] for step, _ in STEPS]
     rows.append(["**all**", *(f"**{sum(counted[name].values()):.1f}**" for name in counted)])
     text = table(["step", *counted], rows)
-    for name in (OPENCV, MEMCPY):
-        if results.profiles[name]:
-            text += f"\n\n{name}: {sum(results.profiles[name].values()) / COUNTED:.1f} a pixel (its instructions take up to 32 bytes each)."
+    if results.profiles[OPENCV]:
+        text += f"\n\nOpenCV: {sum(results.profiles[OPENCV].values()) / COUNTED:.1f} (valgrind shows it a processor without AVX-512)."
     return text
+
+
+def default_table(results):
+    rows = [[size(j), *(milliseconds(t[name].median) for name in (LIBRARY, OPENCV)), shown(ratio(t, OPENCV, LIBRARY))]
+            for j, t in sorted(results.default.items(), key=lambda item: pixels(item[0])) if OPENCV in t]
+    return table(["pair, s = 6, default allocator", f"{LIBRARY}, ms", f"{OPENCV}, ms", "OpenCV / library"], rows)
 
 
 Goal = namedtuple("Goal", "text measured met")
 
 
-def worst(results, a, b, jobs, pick):
-    """The extreme of a ratio over some jobs, with the size where it stands; None where it was not measured."""
-    ratios = [(results.ratio(j, a, b), size(j)) for j in jobs if results.ratio(j, a, b) is not None]
-    return pick(ratios) if ratios else None
+def told(ratios):
+    """(ratio, job) pairs as text."""
+    return ", ".join(f"{r:.2f} at {size(j)}" for r, j in ratios)
 
 
 def goal_careful(results):
-    asked = [j for j in results.pairs() if (j.w, j.h) in ASKED]
-    told = ", ".join(f"{results.ratio(j, LIBRARY, CAREFUL):.2f} at {size(j)}" for j in asked)
-    most = max(results.ratio(j, LIBRARY, CAREFUL) for j in asked)
-    met = "met" if most <= 1.005 else "1.0 missed, 1.3 met" if most <= 1.3 else "missed"
-    return Goal("at most 1.0 times the careful C program, 1.3 at the worst", told, met)
+    """1.0 at the sizes that the order names, 1.3 wherever it was measured."""
+    every = [(results.ratio(j, LIBRARY, CAREFUL), j) for j in results.times]
+    asked = [(r, j) for r, j in every if j in results.pairs() and (j.w, j.h) in ASKED]
+    asked.sort(key=lambda item: pixels(item[1]))
+    most, where = max(every)
+    text = f"{told(asked)}; of all rows at most {most:.2f} ({size(where)}, {where.n} frames, s = {where.s}, {where.content})"
+    met = "missed" if most > 1.3 else "met" if max(asked)[0] <= 1.005 else "1.0 missed, 1.3 met"
+    return Goal("at most 1.0 times the careful C program, 1.3 at the worst", text, met)
 
 
 def goal_opencv(results, large):
-    least = worst(results, OPENCV, LIBRARY, large, min)
     text = "at least 4 times faster than OpenCV at 1920×1080 and above"
-    if least is None:
+    kept = [(results.ratio(j, OPENCV, LIBRARY), j) for j in large]
+    if any(r is None for r, _ in kept):
         return Goal(text, "OpenCV is not installed", "not measured")
-    told = ", ".join(f"{results.ratio(j, OPENCV, LIBRARY):.2f} at {size(j)}" for j in large)
-    return Goal(text, told, "met" if least[0] >= 4 else "missed")
+    default = [(ratio(results.default[j], OPENCV, LIBRARY), j) for j in large if j in results.default]
+    met = "met" if min(kept)[0] >= 4 else "met with the default allocator only" if min(default)[0] >= 4 else "missed"
+    careful = min(results.ratio(j, OPENCV, CAREFUL) for j in large)
+    return Goal(text, f"{told(kept)}; with the default allocator {told(default)} (over careful C: {careful:.2f} at the least)", met)
 
 
 def goal_memcpy(results, large):
-    most = worst(results, LIBRARY, MEMCPY, large, max)
-    told = ", ".join(f"{results.ratio(j, LIBRARY, MEMCPY):.2f} at {size(j)}" for j in large)
-    return Goal("at most 5 times memcpy of the two rasters there", told, "met" if most[0] <= 5 else "missed")
+    ratios = [(results.ratio(j, LIBRARY, MEMCPY), j) for j in large]
+    careful = max(results.ratio(j, CAREFUL, MEMCPY) for j in large)
+    text = f"{told(ratios)} (careful C: {careful:.2f} at the most)"
+    return Goal("at most 5 times memcpy of the two rasters there", text, "met" if max(ratios)[0] <= 5 else "missed")
 
 
 def goal_linear(results):
     fit = {name: exponent([(pixels(j), results.times[j][name].median) for j in results.pairs()]) for name in (LIBRARY, MEMCPY)}
-    told = f"time ~ pixels^{fit[LIBRARY]:.2f} from 640×480 to 4096×4096 (memcpy: pixels^{fit[MEMCPY]:.2f})"
-    return Goal("time linear in pixels (exponent within 0.1 of 1)", told, "met" if abs(fit[LIBRARY] - 1) <= 0.1 else "missed")
+    text = f"time ~ pixels^{fit[LIBRARY]:.2f} from 640×480 to 4096×4096 (memcpy: pixels^{fit[MEMCPY]:.2f})"
+    return Goal("time linear in pixels (exponent within 0.1 of 1)", text, "met" if abs(fit[LIBRARY] - 1) <= 0.1 else "missed")
 
 
 def goal_s(results):
     t = {j.s: results.times[j][LIBRARY].median for j in results.by_s()}
-    told = f"s = 8 takes {t[8] / t[0]:.2f} times s = 0, and {t[8] / t[2]:.2f} times s = 2"
-    return Goal("nearly independent of s (at most 4/3, the sum of the levels' pixels)", told, "met" if t[8] / t[0] <= 4 / 3 else "missed")
+    text = f"s = 8 takes {t[8] / t[0]:.2f} times s = 0, and {t[8] / t[2]:.2f} times s = 2"
+    return Goal("nearly independent of s (at most 4/3, the sum of the levels' pixels)", text, "met" if t[8] / t[0] <= 4 / 3 else "missed")
 
 
 def goals(results):
@@ -245,6 +260,7 @@ def document(results):
         "goals": table(["goal", "measured", ""], goals(results)),
         "pairs": pair_table(results),
         "series": series_table(results),
+        "default": default_table(results),
         "s": s_table(results),
         "instructions": instruction_table(results),
         "machine": machine(results),
@@ -270,7 +286,7 @@ def main():
         f.write(document(results))
     with open(os.path.join(docs, "benchmark.svg"), "w") as f:
         f.write(picture(results))
-    for text in (pair_table(results), series_table(results)):
+    for text in (pair_table(results), default_table(results), series_table(results)):
         print(text + "\n")
     for goal in goals(results):
         print(f"{goal.met}: {goal.text}: {goal.measured}")
