@@ -1,0 +1,19 @@
+/* The careful C program that the library is measured against: the same rules and the same lent memory,
+ * inputs taken on trust. The header says what each buffer holds; the library's own is include/mtb.h. */
+#ifndef CAREFUL_H
+#define CAREFUL_H
+
+#include <stddef.h>
+#include <stdint.h>
+
+/* Two rasters of w by h. Writes the offset and the 9·(s+1) counts. Work memory as for mtb_pair: grey 2·(pixels
+ * of all levels) bytes, words 4·W·h. */
+void careful_pair(uint32_t w, uint32_t h, uint32_t s, uint32_t tolerance, uint32_t percentile, const uint8_t *first,
+                  const uint8_t *second, int32_t *dx, int32_t *dy, uint32_t *counts, uint8_t *grey, uint64_t *words);
+
+/* n rasters, one after another, n-1 percentiles. Writes 2·n offsets about frame r and 9·(s+1)·(n-1) counts. */
+void careful_series(uint32_t w, uint32_t h, uint32_t s, uint32_t tolerance, uint32_t n, uint32_t r,
+                    const uint32_t *percentiles, const uint8_t *rasters, int32_t *offsets, uint32_t *counts,
+                    uint8_t *grey, uint64_t *words);
+
+#endif

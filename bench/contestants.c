@@ -1,0 +1,61 @@
+/* The contestants, each behind the same signature. */
+#include "contest.h"
+
+#include <stdio.h>
+#include <stdlib.h>
+#include <string.h>
+
+#include "careful.h"
+#include "mtb.h"
+
+static size_t raster_len(const struct job *j) { return (size_t)3 * j->w * j->h; }
+
+/* The library's pair call for a pair, its series call otherwise. */
+static void library(const struct job *j, const struct memory *m, struct answer *a)
+{
+    size_t len = raster_len(j), levels = j->s + 1;
+    uint32_t refused;
+    if (j->n == 2) {
+        a->offsets[0] = a->offsets[1] = 0;
+        refused = mtb_pair(j->w, j->h, j->s, j->tolerance, j->percentiles[0], j->rasters, len, j->rasters + len, len,
+                           &a->offsets[2], &a->offsets[3], a->counts, CANDIDATES * levels, m->grey, m->grey_len,
+                           m->words, m->words_len);
+    } else {
+        refused = mtb_series(j->w, j->h, j->s, j->tolerance, j->n, 0, j->percentiles, j->n - 1, j->rasters, j->n * len,
+                             a->offsets, 2 * j->n, a->counts, CANDIDATES * levels * (j->n - 1), m->grey, m->grey_len,
+                             m->words, m->words_len);
+    }
+    if (refused != 0) {
+        fprintf(stderr, "the library refused %u by %u, s = %u: number %u\n", j->w, j->h, j->s, refused);
+        exit(1);
+    }
+}
+
+static void careful(const struct job *j, const struct memory *m, struct answer *a)
+{
+    if (j->n == 2) {
+        a->offsets[0] = a->offsets[1] = 0;
+        careful_pair(j->w, j->h, j->s, j->tolerance, j->percentiles[0], j->rasters, j->rasters + raster_len(j),
+                     &a->offsets[2], &a->offsets[3], a->counts, m->grey, m->words);
+    } else {
+        careful_series(j->w, j->h, j->s, j->tolerance, j->n, 0, j->percentiles, j->rasters, a->offsets, a->counts,
+                       m->grey, m->words);
+    }
+}
+
+/* The floor: every byte of the rasters read and written once. */
+static void copy(const struct job *j, const struct memory *m, struct answer *a)
+{
+    (void)a;
+    memcpy(m->copy, j->rasters, j->n * raster_len(j));
+}
+
+const struct contestant contestants[] = {
+    {"library", library, 1},
+    {"careful C", careful, 1},
+#ifdef WITH_OPENCV
+    {"OpenCV", opencv_align, 0},
+#endif
+    {"memcpy", copy, 0},
+};
+const size_t contestants_len = sizeof contestants / sizeof contestants[0];

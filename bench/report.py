@@ -1,0 +1,295 @@
+#!/usr/bin/env python3
+"""Writes docs/BENCHMARK.md and docs/benchmark.svg from what bench/run measured, and prints the ratios.
+
+usage: report.py MEASURED DOCS     (MEASURED has results.tsv and the profiles callgrind.NAME.txt)
+"""
+import math
+import os
+import re
+import sys
+from collections import namedtuple
+
+import plot
+
+LIBRARY, CAREFUL, OPENCV, MEMCPY = "library", "careful C", "OpenCV", "memcpy"
+NAMES = (LIBRARY, CAREFUL, OPENCV, MEMCPY)
+ASKED = ((640, 480), (1920, 1080), (4096, 4096))  # the sizes that the order names
+LARGE = 1920 * 1080  # goals against OpenCV and memcpy hold from here on
+COUNTED = 640 * 480  # pixels of the frames whose instructions are counted
+
+# A function of a profile belongs to the first step whose pattern its name has.
+STEPS = (
+    ("grey", r"to_grey|convert|mtb_pair|align::pair$"),
+    ("halving", r"halv"),
+    ("histogram and threshold", r"threshold_of|histogram|percentile_of|count_fours|bitmaps_within"),
+    ("bitmaps", r"pack"),
+    ("difference counts", r"count_at|ones|settle|nine_counts|difference"),
+    ("other", r""),
+)
+
+Job = namedtuple("Job", "content w h n s")
+Time = namedtuple("Time", "median least turns offset")  # milliseconds; the last frame's offset
+
+
+class Results:
+    """What was measured: times[job][name] with freed memory kept, default[job][name] with the C library's own ways,
+    facts, agreement, and the profiles."""
+
+    def __init__(self, folder):
+        self.times, self.default, self.facts, self.agreed = {}, {}, {}, (0, 0)
+        with open(os.path.join(folder, "results.tsv")) as lines:
+            for line in lines:
+                self.take(line.rstrip("\n").split("\t"))
+        self.profiles = {name: profile(os.path.join(folder, f"callgrind.{name.replace(' ', '')}.txt")) for name in NAMES}
+
+    def take(self, words):
+        kind = words[0]
+        if kind == "fact":
+            self.facts[words[1]] = words[2]
+        elif kind == "agree":
+            self.agreed = (int(words[1]), int(words[2]))
+        elif kind in ("time", "default"):
+            w, h, n, s = map(int, words[2:6])
+            median, least = (int(v) / 1e6 for v in words[7:9])
+            offset = (int(words[10]), int(words[11]))
+            table = self.times if kind == "time" else self.default
+            table.setdefault(Job(words[1], w, h, n, s), {})[words[6]] = Time(median, least, int(words[9]), offset)
+
+    def ratio(self, job, a, b):
+        """How many times b's median time a takes; None where one was not timed."""
+        return ratio(self.times[job], a, b)
+
+    def pairs(self):
+        """The pairs of the scene at s = 6, by size."""
+        return sorted((j for j in self.times if j.content == "scene" and j.n == 2 and j.s == 6), key=pixels)
+
+    def by_s(self):
+        """The pairs of one size at every s."""
+        return sorted((j for j in self.times if j.content == "scene" and j.n == 2 and (j.w, j.h) == (1920, 1080)), key=lambda j: j.s)
+
+
+def ratio(times, a, b):
+    return times[a].median / times[b].median if a in times and b in times else None
+
+
+def pixels(job):
+    return job.w * job.h
+
+
+def profile(path):
+    """Instructions by function, from callgrind_annotate; empty where there is none."""
+    counts = {}
+    if os.path.exists(path):
+        with open(path) as lines:
+            for line in lines:
+                m = re.match(r" *([\d,]+) \([ \d.]+%\)  (?:[^ ]*?:)?([^ ].*?)(?: \[.*\])?$", line)
+                if m and m.group(2) != "PROGRAM TOTALS":
+                    counts[m.group(2)] = counts.get(m.group(2), 0) + int(m.group(1).replace(",", ""))
+    return counts
+
+
+def step_of(function):
+    return next(step for step, pattern in STEPS if re.search(pattern, function))
+
+
+def steps(counts):
+    """Instructions a pixel by step."""
+    total = dict.fromkeys((step for step, _ in STEPS), 0)
+    for function, n in counts.items():
+        total[step_of(function)] += n / COUNTED
+    return total
+
+
+def exponent(points):
+    """p of the best fit of time = c · pixels^p."""
+    logs = [(math.log(x), math.log(y)) for x, y in points]
+    mx, my = (sum(v) / len(logs) for v in zip(*logs))
+    return sum((x - mx) * (y - my) for x, y in logs) / sum((x - mx) ** 2 for x, _ in logs)
+
+
+def shown(ratio):
+    return "–" if ratio is None else f"{ratio:.2f}"
+
+
+def milliseconds(v):
+    return f"{v:.3f}" if v < 10 else f"{v:.1f}"
+
+
+def table(head, rows):
+    lines = ["| " + " | ".join(head) + " |", "|" + "---|" * len(head)]
+    return "\n".join(lines + ["| " + " | ".join(map(str, row)) + " |" for row in rows])
+
+
+def size(job):
+    return f"{job.w}×{job.h}"
+
+
+def cells(results, job):
+    """The times of one job, and the three ratios that the goals speak of."""
+    times = results.times[job]
+    row = [milliseconds(times[name].median) if name in times else "–" for name in NAMES]
+    return row + [shown(results.ratio(job, LIBRARY, CAREFUL)), shown(results.ratio(job, OPENCV, LIBRARY)), shown(results.ratio(job, LIBRARY, MEMCPY))]
+
+
+RATIOS = ["library / careful C", "OpenCV / library", "library / memcpy"]
+TIMES = [f"{name}, ms" for name in NAMES]
+
+
+def pair_table(results):
+    rows = []
+    for job in results.pairs():
+        name = f"**{size(job)}**" if (job.w, job.h) in ASKED else size(job)
+        rows.append([name, *cells(results, job), f"{results.times[job][LIBRARY].median * 1e6 / pixels(job):.2f}"])
+    noise = next(j for j in results.times if j.content == "noise")
+    rows.append([f"{size(noise)}, random bytes", *cells(results, noise), f"{results.times[noise][LIBRARY].median * 1e6 / pixels(noise):.2f}"])
+    return table(["pair, s = 6", *TIMES, *RATIOS, "library, ns a pixel"], rows)
+
+
+def series_table(results):
+    jobs = sorted((j for j in results.times if j.n > 2), key=pixels)
+    return table(["series", *TIMES, *RATIOS], [[f"{j.n} frames of {size(j)}, s = {j.s}", *cells(results, j)] for j in jobs])
+
+
+def s_table(results):
+    jobs = results.by_s()
+    rows = [[name, *(milliseconds(results.times[j][name].median) for j in jobs)] for name in (LIBRARY, CAREFUL)]
+    return table(["1920×1080, ms", *(f"s = {j.s}" for j in jobs)], rows)
+
+
+def instruction_table(results):
+    counted = {name: steps(results.profiles[name]) for name in (LIBRARY, CAREFUL) if results.profiles[name]}
+    rows = [[step, *(f"{counted[name][step]:.2f}" for name in counted)] for step, _ in STEPS]
+    rows.append(["**all**", *(f"**{sum(counted[name].values()):.1f}**" for name in counted)])
+    text = table(["step", *counted], rows)
+    if results.profiles[OPENCV]:
+        text += f"\n\nOpenCV: {sum(results.profiles[OPENCV].values()) / COUNTED:.1f} (valgrind shows it a processor without AVX-512)."
+    return text
+
+
+def default_table(results):
+    rows = [[size(j), *(milliseconds(t[name].median) for name in (LIBRARY, OPENCV)), shown(ratio(t, OPENCV, LIBRARY))]
+            for j, t in sorted(results.default.items(), key=lambda item: pixels(item[0])) if OPENCV in t]
+    return table(["pair, s = 6, default allocator", f"{LIBRARY}, ms", f"{OPENCV}, ms", "OpenCV / library"], rows)
+
+
+Goal = namedtuple("Goal", "text measured met")
+
+
+def told(ratios):
+    """(ratio, job) pairs as text."""
+    return ", ".join(f"{r:.2f} at {size(j)}" for r, j in ratios)
+
+
+def goal_careful(results):
+    """1.0 at the sizes that the order names, 1.3 wherever it was measured."""
+    every = [(results.ratio(j, LIBRARY, CAREFUL), j) for j in results.times]
+    asked = [(r, j) for r, j in every if j in results.pairs() and (j.w, j.h) in ASKED]
+    asked.sort(key=lambda item: pixels(item[1]))
+    most, where = max(every)
+    text = f"{told(asked)}; of all rows at most {most:.2f} ({size(where)}, {where.n} frames, s = {where.s}, {where.content})"
+    met = "missed" if most > 1.3 else "met" if max(asked)[0] <= 1.005 else "1.0 missed, 1.3 met"
+    return Goal("at most 1.0 times the careful C program, 1.3 at the worst", text, met)
+
+
+def goal_opencv(results, large):
+    text = "at least 4 times faster than OpenCV at 1920×1080 and above"
+    kept = [(results.ratio(j, OPENCV, LIBRARY), j) for j in large]
+    if any(r is None for r, _ in kept):
+        return Goal(text, "OpenCV is not installed", "not measured")
+    default = [(ratio(results.default[j], OPENCV, LIBRARY), j) for j in large if j in results.default]
+    met = "met" if min(kept)[0] >= 4 else "met with the default allocator only" if min(default)[0] >= 4 else "missed"
+    careful = min(results.ratio(j, OPENCV, CAREFUL) for j in large)
+    return Goal(text, f"{told(kept)}; with the default allocator {told(default)} (over careful C: {careful:.2f} at the least)", met)
+
+
+def goal_memcpy(results, large):
+    ratios = [(results.ratio(j, LIBRARY, MEMCPY), j) for j in large]
+    careful = max(results.ratio(j, CAREFUL, MEMCPY) for j in large)
+    text = f"{told(ratios)} (careful C: {careful:.2f} at the most)"
+    return Goal("at most 5 times memcpy of the two rasters there", text, "met" if max(ratios)[0] <= 5 else "missed")
+
+
+def goal_linear(results):
+    fit = {name: exponent([(pixels(j), results.times[j][name].median) for j in results.pairs()]) for name in (LIBRARY, MEMCPY)}
+    text = f"time ~ pixels^{fit[LIBRARY]:.2f} from 640×480 to 4096×4096 (memcpy: pixels^{fit[MEMCPY]:.2f})"
+    return Goal("time linear in pixels (exponent within 0.1 of 1)", text, "met" if abs(fit[LIBRARY] - 1) <= 0.1 else "missed")
+
+
+def goal_s(results):
+    t = {j.s: results.times[j][LIBRARY].median for j in results.by_s()}
+    text = f"s = 8 takes {t[8] / t[0]:.2f} times s = 0, and {t[8] / t[2]:.2f} times s = 2"
+    return Goal("nearly independent of s (at most 4/3, the sum of the levels' pixels)", text, "met" if t[8] / t[0] <= 4 / 3 else "missed")
+
+
+def goals(results):
+    large = [j for j in results.pairs() if pixels(j) >= LARGE]
+    return [goal_careful(results), goal_opencv(results, large), goal_memcpy(results, large), goal_linear(results), goal_s(results)]
+
+
+def machine(results):
+    f = results.facts
+    rows = [[key, f[key]] for key in ("processor", "caches", "system", "toolchain", "compiler", "OpenCV", "valgrind") if key in f]
+    return table(["", ""], rows)
+
+
+def busy(results):
+    """A warning where other work ran beside the measurement."""
+    load = float(results.facts["load"])
+    return "" if load < 0.5 else f"\n> The load average was {load} when this run began: other work ran beside it, and its times are rough.\n"
+
+
+def turns(results):
+    counts = [t.turns for by_name in results.times.values() for t in by_name.values()]
+    return min(counts), max(counts)
+
+
+def offsets_line(results):
+    """Where the contestants' offsets of the pairs differ."""
+    apart = [f"{size(j)} {name}" for j in results.pairs() for name, t in results.times[j].items()
+             if name != MEMCPY and t.offset != results.times[j][LIBRARY].offset]
+    return "Every contestant gives the same offset for each pair of the scene." if not apart else "Other offsets than the library's: " + ", ".join(apart) + "."
+
+
+def document(results):
+    with open(os.path.join(os.path.dirname(__file__), "BENCHMARK.in.md")) as f:
+        text = f.read()
+    jobs, pairs = results.agreed
+    few, many = turns(results)
+    parts = {
+        "busy": busy(results),
+        "goals": table(["goal", "measured", ""], goals(results)),
+        "pairs": pair_table(results),
+        "series": series_table(results),
+        "default": default_table(results),
+        "s": s_table(results),
+        "instructions": instruction_table(results),
+        "machine": machine(results),
+        "agreed": f"{pairs} pairs in {jobs} random series",
+        "offsets": offsets_line(results),
+        "turns": f"{few} to {many}",
+    }
+    return re.sub(r"\{\{(\w+)\}\}", lambda m: parts[m.group(1)], text)
+
+
+def picture(results):
+    """Two panels: time against pixels, and time against s."""
+    names = [name for name in NAMES if all(name in results.times[j] for j in results.pairs())]
+    against_pixels = {name: [(pixels(j) / 1e6, results.times[j][name].median) for j in results.pairs()] for name in names}
+    against_s = {name: [(j.s, results.times[j][name].median) for j in results.by_s()] for name in names}
+    return plot.picture(against_pixels, against_s)
+
+
+def main():
+    measured, docs = sys.argv[1:]
+    results = Results(measured)
+    with open(os.path.join(docs, "BENCHMARK.md"), "w") as f:
+        f.write(document(results))
+    with open(os.path.join(docs, "benchmark.svg"), "w") as f:
+        f.write(picture(results))
+    for text in (pair_table(results), default_table(results), series_table(results)):
+        print(text + "\n")
+    for goal in goals(results):
+        print(f"{goal.met}: {goal.text}: {goal.measured}")
+
+
+main()
