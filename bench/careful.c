@@ -129,7 +129,8 @@ static uint64_t exchange(uint64_t v, uint64_t mask, unsigned s)
 
 /* The place of pixel i among the columns of a word: its byte is i % 8, its bit i / 8. */
 #define EIGHT(v) v, v, v, v, v, v, v, v
-static const uint8_t COLUMN[WORD_BITS] = {EIGHT(1), EIGHT(2), EIGHT(4), EIGHT(8), EIGHT(16), EIGHT(32), EIGHT(64), EIGHT(128)};
+static const uint8_t COLUMN[WORD_BITS] = {EIGHT(1),  EIGHT(2),  EIGHT(4),  EIGHT(8),
+                                          EIGHT(16), EIGHT(32), EIGHT(64), EIGHT(128)};
 
 /* 64 pixels as one word, bit i for pixel i: 1 where the grey value less `low` (a byte, round the end) is above `span`.
  * The flags laid over each other are the word as 8 by 8 bits by columns; three exchanges turn columns into rows.

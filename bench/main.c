@@ -179,14 +179,16 @@ static void keep_memory(void)
         fail("mallopt");
 }
 
-/* A line each contestant: the job, the name, median and least time, turns, the last frame's offset. */
+/* A line each contestant: the job, the name, median and least time, turns, the last frame's offset, the true one. */
 static void print_line(const char *kind, const struct job *j, enum content content, const struct contestant *c,
                        uint64_t *times, uint32_t turns, const struct answer *a)
 {
+    struct slide first = scene_slide(0), last = scene_slide(j->n - 1);
     qsort(times, turns, sizeof times[0], ascending);
-    printf("%s\t%s\t%u\t%u\t%u\t%u\t%s\t%llu\t%llu\t%u\t%d\t%d\n", kind, content == SCENE ? "scene" : "noise", j->w,
-           j->h, j->n, j->s, c->name, (unsigned long long)times[turns / 2], (unsigned long long)times[0], turns,
-           a->offsets[2 * j->n - 2], a->offsets[2 * j->n - 1]);
+    printf("%s\t%s\t%u\t%u\t%u\t%u\t%s\t", kind, content == SCENE ? "scene" : "noise", j->w, j->h, j->n, j->s, c->name);
+    printf("%llu\t%llu\t%u\t", (unsigned long long)times[turns / 2], (unsigned long long)times[0], turns);
+    printf("%d\t%d\t", a->offsets[2 * j->n - 2], a->offsets[2 * j->n - 1]);
+    printf("%d\t%d\n", first.x - last.x, first.y - last.y);
     fflush(stdout);
 }
 

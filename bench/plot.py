@@ -24,7 +24,8 @@ class Axis:
 
 
 def label(x, y, text, anchor="middle", colour=TEXT, size=13, weight="normal"):
-    return f'<text x="{x:.1f}" y="{y:.1f}" text-anchor="{anchor}" fill="{colour}" font-size="{size}" font-weight="{weight}">{escape(text)}</text>'
+    place = f'x="{x:.1f}" y="{y:.1f}" text-anchor="{anchor}"'
+    return f'<text {place} fill="{colour}" font-size="{size}" font-weight="{weight}">{escape(text)}</text>'
 
 
 def line(x1, y1, x2, y2, colour=FAINT):
@@ -104,7 +105,8 @@ def s_panel(series):
     across, up = Axis(-0.3, 8.3, 580, 860, False), Axis(0, top, BOTTOM, TOP, False)
     step = next(v for v, _ in decades(0.001, 1e5) if top / v <= 8)
     out = [label(720, 35, "Time of a pair of 1920×1080 against s", size=15, weight="bold")]
-    out += grid(across, up, [(s, str(s)) for s in range(9)], [(k * step, f"{k * step:g}") for k in range(int(top / step) + 1)])
+    up_marks = [(k * step, f"{k * step:g}") for k in range(int(top / step) + 1)]
+    out += grid(across, up, [(s, str(s)) for s in range(9)], up_marks)
     out += curves(across, up, series)
     return out + [label(720, BOTTOM + 42, "s, the number of halvings"), label(580, TOP - 8, "ms")]
 

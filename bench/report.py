@@ -23,12 +23,12 @@ STEPS = (
     ("halving", r"halv"),
     ("histogram and threshold", r"threshold_of|histogram|percentile_of|count_fours|bitmaps_within"),
     ("bitmaps", r"pack"),
-    ("difference counts", r"count_at|ones|settle|nine_counts|difference"),
+    ("difference counts", r"count_at|ones|settle|nine_counts|difference|moved_word"),
     ("other", r""),
 )
 
 Job = namedtuple("Job", "content w h n s")
-Time = namedtuple("Time", "median least turns offset")  # milliseconds; the last frame's offset
+Time = namedtuple("Time", "median least turns offset true")  # milliseconds; the last frame's offset, found and true
 
 
 class Results:
@@ -40,7 +40,8 @@ class Results:
         with open(os.path.join(folder, "results.tsv")) as lines:
             for line in lines:
                 self.take(line.rstrip("\n").split("\t"))
-        self.profiles = {name: profile(os.path.join(folder, f"callgrind.{name.replace(' ', '')}.txt")) for name in NAMES}
+        files = {name: f"callgrind.{name.replace(' ', '')}.txt" for name in NAMES}
+        self.profiles = {name: profile(os.path.join(folder, file)) for name, file in files.items()}
 
     def take(self, words):
         kind = words[0]
@@ -51,21 +52,25 @@ class Results:
         elif kind in ("time", "default"):
             w, h, n, s = map(int, words[2:6])
             median, least = (int(v) / 1e6 for v in words[7:9])
-            offset = (int(words[10]), int(words[11]))
+            offset, true = (int(words[10]), int(words[11])), (int(words[12]), int(words[13]))
             table = self.times if kind == "time" else self.default
-            table.setdefault(Job(words[1], w, h, n, s), {})[words[6]] = Time(median, least, int(words[9]), offset)
+            job = Job(words[1], w, h, n, s)
+            table.setdefault(job, {})[words[6]] = Time(median, least, int(words[9]), offset, true)
 
     def ratio(self, job, a, b):
         """How many times b's median time a takes; None where one was not timed."""
         return ratio(self.times[job], a, b)
 
+    def scenes(self):
+        return [j for j in self.times if j.content == "scene" and j.n == 2]
+
     def pairs(self):
         """The pairs of the scene at s = 6, by size."""
-        return sorted((j for j in self.times if j.content == "scene" and j.n == 2 and j.s == 6), key=pixels)
+        return sorted((j for j in self.scenes() if j.s == 6), key=pixels)
 
     def by_s(self):
         """The pairs of one size at every s."""
-        return sorted((j for j in self.times if j.content == "scene" and j.n == 2 and (j.w, j.h) == (1920, 1080)), key=lambda j: j.s)
+        return sorted((j for j in self.scenes() if (j.w, j.h) == (1920, 1080)), key=lambda j: j.s)
 
 
 def ratio(times, a, b):
@@ -128,7 +133,11 @@ def cells(results, job):
     """The times of one job, and the three ratios that the goals speak of."""
     times = results.times[job]
     row = [milliseconds(times[name].median) if name in times else "–" for name in NAMES]
-    return row + [shown(results.ratio(job, LIBRARY, CAREFUL)), shown(results.ratio(job, OPENCV, LIBRARY)), shown(results.ratio(job, LIBRARY, MEMCPY))]
+    return row + [shown(ratio(times, a, b)) for a, b in ((LIBRARY, CAREFUL), (OPENCV, LIBRARY), (LIBRARY, MEMCPY))]
+
+
+def a_pixel(results, job):
+    return f"{results.times[job][LIBRARY].median * 1e6 / pixels(job):.2f}"
 
 
 RATIOS = ["library / careful C", "OpenCV / library", "library / memcpy"]
@@ -139,15 +148,16 @@ def pair_table(results):
     rows = []
     for job in results.pairs():
         name = f"**{size(job)}**" if (job.w, job.h) in ASKED else size(job)
-        rows.append([name, *cells(results, job), f"{results.times[job][LIBRARY].median * 1e6 / pixels(job):.2f}"])
+        rows.append([name, *cells(results, job), a_pixel(results, job)])
     noise = next(j for j in results.times if j.content == "noise")
-    rows.append([f"{size(noise)}, random bytes", *cells(results, noise), f"{results.times[noise][LIBRARY].median * 1e6 / pixels(noise):.2f}"])
+    rows.append([f"{size(noise)}, random bytes", *cells(results, noise), a_pixel(results, noise)])
     return table(["pair, s = 6", *TIMES, *RATIOS, "library, ns a pixel"], rows)
 
 
 def series_table(results):
     jobs = sorted((j for j in results.times if j.n > 2), key=pixels)
-    return table(["series", *TIMES, *RATIOS], [[f"{j.n} frames of {size(j)}, s = {j.s}", *cells(results, j)] for j in jobs])
+    rows = [[f"{j.n} frames of {size(j)}, s = {j.s}", *cells(results, j)] for j in jobs]
+    return table(["series", *TIMES, *RATIOS], rows)
 
 
 def s_table(results):
@@ -158,17 +168,22 @@ def s_table(results):
 
 def instruction_table(results):
     counted = {name: steps(results.profiles[name]) for name in (LIBRARY, CAREFUL) if results.profiles[name]}
+    if not counted:
+        return "(valgrind was not installed.)"
     rows = [[step, *(f"{counted[name][step]:.2f}" for name in counted)] for step, _ in STEPS]
     rows.append(["**all**", *(f"**{sum(counted[name].values()):.1f}**" for name in counted)])
     text = table(["step", *counted], rows)
     if results.profiles[OPENCV]:
-        text += f"\n\nOpenCV: {sum(results.profiles[OPENCV].values()) / COUNTED:.1f} (valgrind shows it a processor without AVX-512)."
+        total = sum(results.profiles[OPENCV].values()) / COUNTED
+        text += f"\n\nOpenCV: {total:.1f} (valgrind shows it a processor without AVX-512)."
     return text
 
 
 def default_table(results):
     rows = [[size(j), *(milliseconds(t[name].median) for name in (LIBRARY, OPENCV)), shown(ratio(t, OPENCV, LIBRARY))]
             for j, t in sorted(results.default.items(), key=lambda item: pixels(item[0])) if OPENCV in t]
+    if not rows:
+        return "(OpenCV was not installed.)"
     return table(["pair, s = 6, default allocator", f"{LIBRARY}, ms", f"{OPENCV}, ms", "OpenCV / library"], rows)
 
 
@@ -186,7 +201,7 @@ def goal_careful(results):
     asked = [(r, j) for r, j in every if j in results.pairs() and (j.w, j.h) in ASKED]
     asked.sort(key=lambda item: pixels(item[1]))
     most, where = max(every)
-    text = f"{told(asked)}; of all rows at most {most:.2f} ({size(where)}, {where.n} frames, s = {where.s}, {where.content})"
+    text = f"{told(asked)}; of all rows at most {most:.2f} ({size(where)}, n = {where.n}, s = {where.s}, {where.content})"
     met = "missed" if most > 1.3 else "met" if max(asked)[0] <= 1.005 else "1.0 missed, 1.3 met"
     return Goal("at most 1.0 times the careful C program, 1.3 at the worst", text, met)
 
@@ -199,7 +214,8 @@ def goal_opencv(results, large):
     default = [(ratio(results.default[j], OPENCV, LIBRARY), j) for j in large if j in results.default]
     met = "met" if min(kept)[0] >= 4 else "met with the default allocator only" if min(default)[0] >= 4 else "missed"
     careful = min(results.ratio(j, OPENCV, CAREFUL) for j in large)
-    return Goal(text, f"{told(kept)}; with the default allocator {told(default)} (over careful C: {careful:.2f} at the least)", met)
+    measured = f"{told(kept)}; with the default allocator {told(default)} (OpenCV / careful C: {careful:.2f} at the least)"
+    return Goal(text, measured, met)
 
 
 def goal_memcpy(results, large):
@@ -210,32 +226,37 @@ def goal_memcpy(results, large):
 
 
 def goal_linear(results):
-    fit = {name: exponent([(pixels(j), results.times[j][name].median) for j in results.pairs()]) for name in (LIBRARY, MEMCPY)}
+    jobs = results.pairs()
+    fit = {name: exponent([(pixels(j), results.times[j][name].median) for j in jobs]) for name in (LIBRARY, MEMCPY)}
     text = f"time ~ pixels^{fit[LIBRARY]:.2f} from 640×480 to 4096×4096 (memcpy: pixels^{fit[MEMCPY]:.2f})"
-    return Goal("time linear in pixels (exponent within 0.1 of 1)", text, "met" if abs(fit[LIBRARY] - 1) <= 0.1 else "missed")
+    met = "met" if abs(fit[LIBRARY] - 1) <= 0.1 else "missed"
+    return Goal("time linear in pixels (exponent within 0.1 of 1)", text, met)
 
 
 def goal_s(results):
     t = {j.s: results.times[j][LIBRARY].median for j in results.by_s()}
     text = f"s = 8 takes {t[8] / t[0]:.2f} times s = 0, and {t[8] / t[2]:.2f} times s = 2"
-    return Goal("nearly independent of s (at most 4/3, the sum of the levels' pixels)", text, "met" if t[8] / t[0] <= 4 / 3 else "missed")
+    met = "met" if t[8] / t[0] <= 4 / 3 else "missed"
+    return Goal("nearly independent of s (at most 4/3, the sum of the levels' pixels)", text, met)
 
 
 def goals(results):
     large = [j for j in results.pairs() if pixels(j) >= LARGE]
-    return [goal_careful(results), goal_opencv(results, large), goal_memcpy(results, large), goal_linear(results), goal_s(results)]
+    return [goal_careful(results), goal_opencv(results, large), goal_memcpy(results, large),
+            goal_linear(results), goal_s(results)]
 
 
 def machine(results):
     f = results.facts
-    rows = [[key, f[key]] for key in ("processor", "caches", "system", "toolchain", "compiler", "OpenCV", "valgrind") if key in f]
-    return table(["", ""], rows)
+    keys = ("processor", "caches", "system", "commit", "toolchain", "compiler", "OpenCV", "valgrind")
+    return table(["", ""], [[key, f[key]] for key in keys if key in f])
 
 
 def busy(results):
     """A warning where other work ran beside the measurement."""
     load = float(results.facts["load"])
-    return "" if load < 0.5 else f"\n> The load average was {load} when this run began: other work ran beside it, and its times are rough.\n"
+    text = f"\n> The load average was {load} when this run began: other work ran beside it, and its times are rough.\n"
+    return "" if load < 0.5 else text
 
 
 def turns(results):
@@ -243,11 +264,20 @@ def turns(results):
     return min(counts), max(counts)
 
 
+def reaches(job, true):
+    """Whether s halvings let a pair move so far; of a series only the sum of its pairs is known, and within reach."""
+    return job.n > 2 or max(map(abs, true)) < 2 ** (job.s + 1)
+
+
 def offsets_line(results):
-    """Where the contestants' offsets of the pairs differ."""
-    apart = [f"{size(j)} {name}" for j in results.pairs() for name, t in results.times[j].items()
-             if name != MEMCPY and t.offset != results.times[j][LIBRARY].offset]
-    return "Every contestant gives the same offset for each pair of the scene." if not apart else "Other offsets than the library's: " + ", ".join(apart) + "."
+    """Which contestants found the true offset of the scene's last frame, where s lets them."""
+    said = []
+    for name in (LIBRARY, OPENCV):
+        jobs = [(j, t[name]) for j, t in results.times.items() if j.content == "scene" and name in t and reaches(j, t[name].true)]
+        wrong = [f"{size(j)}, n = {j.n}, s = {j.s}" for j, t in jobs if t.offset != t.true]
+        if jobs:
+            said.append(f"{name}: {len(jobs) - len(wrong)} of {len(jobs)}" + (f" (not {'; '.join(wrong)})" if wrong else ""))
+    return "True offset of the last frame found, in the rows whose s reaches it: " + ", ".join(said) + "."
 
 
 def document(results):

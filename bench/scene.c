@@ -32,7 +32,8 @@ static uint32_t cloud(uint32_t x, uint32_t y, uint32_t log, uint32_t seed)
 /* The light that comes from a place of the scene, 0 to 1023. */
 static uint32_t radiance(uint32_t x, uint32_t y, uint32_t seed)
 {
-    uint32_t clouds = 5 * cloud(x, y, 7, seed) + 4 * cloud(x, y, 5, seed + 1) + 2 * cloud(x, y, 3, seed + 2) + cloud(x, y, 2, seed + 3);
+    uint32_t clouds = 5 * cloud(x, y, 7, seed) + 4 * cloud(x, y, 5, seed + 1) + 2 * cloud(x, y, 3, seed + 2)
+                      + cloud(x, y, 2, seed + 3);
     uint32_t block = hash(x / 24, y / 20, seed + 4) >> 24;
     return (clouds + 4 * block) / 4;
 }
