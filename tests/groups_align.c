@@ -311,7 +311,7 @@ static void add_made_pair(uint32_t w, uint32_t h, uint32_t s, uint32_t scene, ui
 {
     size_t size = (size_t)3 * w * h, later = 3 * ((size_t)dy * w + dx);
     uint8_t *made = malloc(size + later);
-    make_frames((struct made){ scene, w, 65536, 0, 0 }, size + later, made);
+    make_frames((struct made){ scene, w, 65536 }, size + later, made);
     struct vector v = pair_vector(w, h, s, made, made + later);
     v.call = CALL_MADE_PAIR;
     v.made = (struct slice){ made, size + later };
@@ -346,14 +346,12 @@ static void add_made_series(uint32_t w, uint32_t h, uint32_t s, uint32_t n, uint
     static const uint32_t percentiles[] = { 50, 17, 83, 50 };
     size_t size = (size_t)3 * w * h * n;
     uint8_t *made = malloc(size);
-    make_frames((struct made){ scene, w, h, 3, 2 }, size, made);
+    make_frames((struct made){ scene, w, h }, size, made);
     struct vector v = series_vector(w, h, s, n, r, percentiles, made);
     v.call = CALL_MADE_SERIES;
     v.made = (struct slice){ made, size };
     v.made_rows = h;
     v.scene = scene;
-    v.dx = 3;
-    v.dy = 2;
     v.tolerance = 2;
     add(&v);
     free(made);

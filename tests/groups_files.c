@@ -414,7 +414,7 @@ static void file_limits(void)
     must(run("0 0 50\n", &file1, &file1) > 20, "8190 words are enough");
     put_file(&file1, "P6\n4 1366\n255\n", raster, 12 * 1366);
     must(run("0 0 50\n", &file1, &file1) == strlen("refused 11\n"), "8196 words are too many");
-    make_frames((struct made){ 1, 55, 397, 0, 0 }, sizeof raster, raster);
+    make_frames((struct made){ 1, 55, 397 }, sizeof raster, raster);
     put_file(&file1, "P6              55     397 255 ", raster, sizeof raster);
     put_file(&other, "P6              55      397 255 ", raster, sizeof raster);
     must(file1.length == 65536 && run("3 0 50\n", &file1, &file1) > 60, "65536 bytes are read");

@@ -150,8 +150,8 @@ static uint64_t made_light(uint64_t scene, uint64_t x, uint64_t y)
 static uint8_t made_byte(struct made by, uint64_t i)
 {
     uint64_t pixel = i / 3, row = pixel / by.w, frame = row / by.rows;
-    uint64_t x = (pixel % by.w + frame * by.move_x) % 65536;
-    uint64_t y = (row % by.rows + frame * by.move_y) % 65536;
+    uint64_t x = (pixel % by.w + 3 * frame) % 65536;
+    uint64_t y = (row % by.rows + 2 * frame) % 65536;
     return (uint8_t)(made_light(by.scene, x, y) + 20 * (i % 3) + 7 * (frame % 3));
 }
 

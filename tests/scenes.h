@@ -46,7 +46,7 @@ void re_expose(const uint8_t *raster, size_t pixels, const uint8_t curve[256], u
 
 /* Frames made by a formula, for sizes that are too large to store; FORMAT.md has the formula. */
 struct made {
-    uint32_t scene, w, rows, move_x, move_y;
+    uint32_t scene, w, rows;
 };
 
 void make_frames(struct made by, size_t count, uint8_t *bytes);

@@ -1,6 +1,5 @@
 // Comparison of lent buffers with their expected contents: in full, or by a digest.
 
-use crate::data::MOST_NUMBERS;
 use crate::data::number_of;
 use crate::data::part;
 use crate::data::pool;
@@ -12,6 +11,9 @@ use crate::data::word_of;
 const FULL_BYTES: usize = 256;
 
 const FULL_WORDS: usize = 32;
+
+// More offsets or counts than any record has.
+const MOST_NUMBERS: usize = 65536;
 
 const DIGEST_BASIS: u64 = 0xCBF29CE484222325;
 
@@ -138,4 +140,9 @@ pub fn offsets_are(buffer: &[i32], data: &[u8], at: usize) -> bool {
         return false;
     }
     same_offsets(buffer, part(pool(data), at, 4 * buffer.len()))
+}
+
+// Whether a part that was handed back is the one from `start` on, of this length.
+pub fn part_is(handed: &[u8], whole: &[u8], start: usize, length: usize) -> bool {
+    handed.len() == length && same_bytes(handed, part(whole, start, length))
 }

@@ -54,9 +54,6 @@ pub const SCENE: usize = 31;
 
 const FIELDS: usize = 32;
 
-// More than any record has as an input or output that is not bytes.
-pub const MOST_NUMBERS: usize = 65536;
-
 fn byte_at(bytes: &[u8], at: usize) -> u8 {
     if at < bytes.len() { bytes[at] } else { 0 }
 }
@@ -160,20 +157,12 @@ pub fn input(data: &[u8], at: usize, k: usize) -> &[u8] {
     part(pool(data), size(data, at, k), second(data, at, k))
 }
 
-// The bytes of an input of 32-bit numbers; of more than any record has, none.
-pub fn numbers_input(data: &[u8], at: usize, k: usize) -> &[u8] {
-    let length = second(data, at, k);
-    if MOST_NUMBERS < length {
-        return &data[0..0];
+// The pool from an input's place on.
+pub fn input_on(data: &[u8], at: usize, k: usize) -> &[u8] {
+    let bytes = pool(data);
+    let from = size(data, at, k);
+    if bytes.len() < from {
+        return &bytes[0..0];
     }
-    part(pool(data), size(data, at, k), 4 * length)
-}
-
-// The same of 64-bit numbers.
-pub fn words_input(data: &[u8], at: usize, k: usize) -> &[u8] {
-    let length = second(data, at, k);
-    if MOST_NUMBERS < length {
-        return &data[0..0];
-    }
-    part(pool(data), size(data, at, k), 8 * length)
+    &bytes[from..]
 }

@@ -3,15 +3,11 @@
 use crate::aligns::align_record;
 use crate::aligns::made_record;
 use crate::data::CALL;
-use crate::data::OUTPUT1;
-use crate::data::REFUSAL;
-use crate::data::VALUE3;
 use crate::data::field;
 use crate::data::number_at;
 use crate::data::part;
 use crate::data::pool;
-use crate::data::size;
-use crate::reads::read_number;
+use crate::reads::read_record;
 use crate::texts::text_record;
 use crate::writes::byte_record;
 use crate::writes::word_record;
@@ -22,9 +18,6 @@ const HEADER_BYTES: usize = 20;
 const GROUP_BYTES: usize = 16;
 
 const RECORD_BYTES: usize = 128;
-
-// `MTBV`, as a number.
-const MAGIC: u32 = 0x5642544D;
 
 // How many of the differing records a line names.
 const NAMED: u64 = 5;
@@ -62,12 +55,12 @@ fn run_record(
     words: &mut [u64],
 ) -> bool {
     match field(data, at, CALL) {
-        1 | 2 | 13 | 15 => byte_record(data, at, size(data, at, OUTPUT1), grey),
-        4 | 5 => word_record(data, at, size(data, at, OUTPUT1), words),
+        1 | 2 | 13 | 15 => byte_record(data, at, grey),
+        4 | 5 => word_record(data, at, words),
         8 | 9 => align_record(data, at, pool(data), grey, words),
-        10 | 11 => made_record(data, at, size(data, at, VALUE3), space, grey, words),
+        10 | 11 => made_record(data, at, space, grey, words),
         17 => text_record(data, at),
-        _ => read_number(data, at) == field(data, at, REFUSAL),
+        _ => read_record(data, at),
     }
 }
 
@@ -134,13 +127,8 @@ fn run_group(
     tally
 }
 
-fn run_groups(
-    data: &[u8],
-    count: u32,
-    space: &mut [u8],
-    grey: &mut [u8],
-    words: &mut [u64],
-) -> Tally {
+fn run_groups(data: &[u8], space: &mut [u8], grey: &mut [u8], words: &mut [u64]) -> Tally {
+    let count = number_at(data, 4);
     let mut tally = Tally {
         compared: 0,
         differ: 0,
@@ -154,35 +142,8 @@ fn run_groups(
     tally
 }
 
-// Whether the bytes are a whole data file.
-fn is_whole(data: &[u8]) -> bool {
-    number_at(data, 0) == MAGIC && number_at(data, 16) as usize == data.len()
-}
-
-// A file that is missing or cut off counts as one difference.
-fn broken(name: &[u8]) -> Tally {
-    say(name);
-    say(b": not a whole data file\n");
-    Tally {
-        compared: 0,
-        differ: 1,
-    }
-}
-
-fn run_read(
-    name: &[u8],
-    data: &[u8],
-    space: &mut [u8],
-    grey: &mut [u8],
-    words: &mut [u64],
-) -> Tally {
-    if is_whole(data) {
-        return run_groups(data, number_at(data, 4), space, grey, words);
-    }
-    broken(name)
-}
-
-// Runs a file, read into the first buffer; the second is for made frames.
+// Runs a file, read into the first buffer; the second is for made frames. Of a file that is missing
+// or cut off no group, or not every record, is found.
 pub fn run_file(
     name: &[u8],
     data: &mut [u8],
@@ -191,10 +152,7 @@ pub fn run_file(
     words: &mut [u64],
 ) -> Tally {
     let fd = os::open_read(name);
-    if fd < 0 {
-        return broken(name);
-    }
     let n = io::read_full(fd, data);
     libc::close(fd);
-    run_read(name, &data[0..n], space, grey, words)
+    run_groups(&data[0..n], space, grey, words)
 }

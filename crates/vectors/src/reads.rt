@@ -1,6 +1,7 @@
 // Calls that write into no buffer: threshold, total, difference, P6 reader, common area, blink row.
 
 use crate::answers;
+use crate::contents::part_is;
 use crate::data::CALL;
 use crate::data::FRAMES;
 use crate::data::HALVINGS;
@@ -12,16 +13,21 @@ use crate::data::MOVE_X;
 use crate::data::MOVE_Y;
 use crate::data::PERCENTILE;
 use crate::data::REFERENCE;
+use crate::data::REFUSAL;
+use crate::data::VALUE1;
+use crate::data::VALUE2;
+use crate::data::VALUE3;
+use crate::data::VALUE4;
 use crate::data::WIDTH;
 use crate::data::field;
 use crate::data::input;
-use crate::data::numbers_input;
+use crate::data::input_on;
 use crate::data::second;
 use crate::data::signed;
 use crate::data::size;
-use crate::data::words_input;
 use crate::lent::load_offsets;
 use crate::lent::load_words;
+use blink::Row;
 
 // The most words of a stored bitmap.
 pub const MOST_WORDS: usize = 128;
@@ -54,12 +60,12 @@ fn threshold_number(data: &[u8], at: usize) -> u32 {
         percentile,
         grey,
     );
-    answers::thresholded(answer, data, at)
+    answers::thresholded(answer, field(data, at, VALUE1))
 }
 
 // An input bitmap.
 pub fn load_bitmap(data: &[u8], at: usize, k: usize, out: &mut [u64]) {
-    load_words(words_input(data, at, k), out);
+    load_words(input_on(data, at, k), out);
 }
 
 fn total_number(data: &[u8], at: usize) -> u32 {
@@ -67,7 +73,7 @@ fn total_number(data: &[u8], at: usize) -> u32 {
     load_bitmap(data, at, INPUT1, &mut bitmap);
     let bits = first_words(&bitmap, second(data, at, INPUT1));
     let answer = count::total(size(data, at, WIDTH), size(data, at, HEIGHT), bits);
-    answers::counted(answer, data, at)
+    answers::counted(answer, field(data, at, VALUE1))
 }
 
 fn difference_of(data: &[u8], at: usize, t1: &[u64], e1: &[u64], t2: &[u64], e2: &[u64]) -> u32 {
@@ -83,7 +89,7 @@ fn difference_of(data: &[u8], at: usize, t1: &[u64], e1: &[u64], t2: &[u64], e2:
         first_words(t2, second(data, at, INPUT3)),
         first_words(e2, second(data, at, INPUT4)),
     );
-    answers::counted(answer, data, at)
+    answers::counted(answer, field(data, at, VALUE1))
 }
 
 fn difference_number(data: &[u8], at: usize) -> u32 {
@@ -98,46 +104,95 @@ fn difference_number(data: &[u8], at: usize) -> u32 {
     difference_of(data, at, &threshold1, &exclusion1, &threshold2, &exclusion2)
 }
 
-fn file_number(data: &[u8], at: usize) -> u32 {
-    let file = input(data, at, INPUT1);
+fn raster_number(data: &[u8], at: usize, file: &[u8]) -> u32 {
     let raster = ppm::p6_raster(file);
-    answers::held(ppm::p6_size(file), raster, file, data, at)
+    let same = part_is(raster, file, size(data, at, VALUE3), size(data, at, VALUE4));
+    let answer = ppm::p6_size(file);
+    answers::held(
+        answer,
+        size(data, at, VALUE1),
+        size(data, at, VALUE2),
+        same,
+        raster.len(),
+    )
+}
+
+fn file_number(data: &[u8], at: usize) -> u32 {
+    raster_number(data, at, input(data, at, INPUT1))
+}
+
+fn area_of(data: &[u8], at: usize, offsets: &[i32]) -> u32 {
+    let n = size(data, at, FRAMES);
+    let answer = area::common_area(size(data, at, WIDTH), size(data, at, HEIGHT), n, offsets);
+    let left = size(data, at, VALUE1);
+    let right = size(data, at, VALUE2);
+    answers::common(
+        answer,
+        left,
+        right,
+        size(data, at, VALUE3),
+        size(data, at, VALUE4),
+    )
 }
 
 fn area_number(data: &[u8], at: usize) -> u32 {
     let mut offsets = [0i32; MOST_OFFSETS];
-    load_offsets(numbers_input(data, at, INPUT1), &mut offsets);
-    let given = first_offsets(&offsets, second(data, at, INPUT1));
-    let n = size(data, at, FRAMES);
-    let answer = area::common_area(size(data, at, WIDTH), size(data, at, HEIGHT), n, given);
-    answers::common(answer, data, at)
+    load_offsets(input_on(data, at, INPUT1), &mut offsets);
+    area_of(data, at, first_offsets(&offsets, second(data, at, INPUT1)))
 }
 
-fn blink_of(data: &[u8], at: usize, other: bool, chosen: &[u8]) -> u32 {
-    let w = size(data, at, WIDTH);
-    let h = size(data, at, HEIGHT);
+fn start_of(data: &[u8], at: usize, first: &[u8], second: &[u8]) -> Row {
     let y = size(data, at, REFERENCE);
-    let first = input(data, at, INPUT1);
-    let second = input(data, at, INPUT2);
-    let handed = blink::blink_row(w, h, y, other, first, second);
-    answers::row(
-        blink::blink_start(w, h, y, first, second),
-        handed,
-        chosen,
-        data,
-        at,
+    blink::blink_start(
+        size(data, at, WIDTH),
+        size(data, at, HEIGHT),
+        y,
+        first,
+        second,
     )
 }
 
-fn blink_number(data: &[u8], at: usize) -> u32 {
-    if field(data, at, HALVINGS) == 1 {
-        return blink_of(data, at, true, input(data, at, INPUT2));
-    }
-    blink_of(data, at, false, input(data, at, INPUT1))
+fn row_of<'a>(data: &[u8], at: usize, other: bool, first: &'a [u8], second: &'a [u8]) -> &'a [u8] {
+    let y = size(data, at, REFERENCE);
+    blink::blink_row(
+        size(data, at, WIDTH),
+        size(data, at, HEIGHT),
+        y,
+        other,
+        first,
+        second,
+    )
 }
 
-// The number of a call that writes into no buffer.
-pub fn read_number(data: &[u8], at: usize) -> u32 {
+fn row_number(data: &[u8], at: usize, answer: Row, row: &[u8], chosen: &[u8]) -> u32 {
+    let start = size(data, at, VALUE1);
+    let same = part_is(row, chosen, start, size(data, at, VALUE2));
+    answers::row(answer, start, same, row.len())
+}
+
+fn blink_number(data: &[u8], at: usize) -> u32 {
+    let first = input(data, at, INPUT1);
+    let second = input(data, at, INPUT2);
+    let answer = start_of(data, at, first, second);
+    if field(data, at, HALVINGS) == 1 {
+        return row_number(
+            data,
+            at,
+            answer,
+            row_of(data, at, true, first, second),
+            second,
+        );
+    }
+    row_number(
+        data,
+        at,
+        answer,
+        row_of(data, at, false, first, second),
+        first,
+    )
+}
+
+fn read_number(data: &[u8], at: usize) -> u32 {
     match field(data, at, CALL) {
         3 => threshold_number(data, at),
         6 => total_number(data, at),
@@ -147,4 +202,9 @@ pub fn read_number(data: &[u8], at: usize) -> u32 {
         16 => blink_number(data, at),
         _ => answers::DIFFERS,
     }
+}
+
+// Whether a call that writes into no buffer agrees.
+pub fn read_record(data: &[u8], at: usize) -> bool {
+    read_number(data, at) == field(data, at, REFUSAL)
 }

@@ -1,34 +1,16 @@
 // Frames made by the formula of tests/FORMAT.md.
 
-use crate::data::MOVE_X;
-use crate::data::MOVE_Y;
 use crate::data::SCENE;
+use crate::data::VALUE3;
 use crate::data::VALUE4;
 use crate::data::WIDTH;
 use crate::data::field;
+use crate::data::size;
 
-// What the frames of a record are made of.
-struct Plan {
-    scene: u64,
-    w: u64,
-    rows: u64,
-    move_x: u64,
-    move_y: u64,
-}
+// How far the window moves from one frame to the next.
+const MOVE_RIGHT: u64 = 3;
 
-// The place of the next byte: colour, column, row, frame, and where the frame's window begins.
-struct Place {
-    colour: u64,
-    column: u64,
-    row: u64,
-    frame: u64,
-    x: u64,
-    y: u64,
-}
-
-fn plus(a: u64, b: u64) -> u64 {
-    std::num::wrapping_add_u64(a, b)
-}
+const MOVE_DOWN: u64 = 2;
 
 fn mixed(value: u64) -> u64 {
     let once = value % 65536 * 40503 % 65536;
@@ -46,100 +28,41 @@ fn cell(scene: u64, side: u64, x: u64, y: u64) -> u64 {
 }
 
 fn light(scene: u64, x: u64, y: u64) -> u64 {
-    let coarse = plus(cell(scene, 160, x, y) / 3, cell(scene, 40, x, y) / 4);
-    plus(
-        coarse,
-        plus(cell(scene, 9, x, y) / 8, cell(scene, 1, x, y) / 64),
-    )
+    let coarse = cell(scene, 160, x, y) % 256 / 3 + cell(scene, 40, x, y) % 256 / 4;
+    coarse + cell(scene, 9, x, y) % 256 / 8 + cell(scene, 1, x, y) % 256 / 64
 }
 
-fn made_byte(scene: u64, place: Place) -> u8 {
-    let x = plus(place.x, place.column) % 65536;
-    let y = plus(place.y, place.row) % 65536;
-    let tint = 20 * (place.colour % 3) + 7 * (place.frame % 3);
-    (plus(light(scene, x, y), tint) % 256) as u8
+// Byte i of frames of w by h.
+fn made_byte(scene: u64, w: u64, h: u64, i: u64) -> u8 {
+    if w == 0 {
+        return 0;
+    }
+    if h == 0 {
+        return 0;
+    }
+    let row = i / 3 / w;
+    let frame = row / h % 65536;
+    let x = (i / 3 % w % 65536 + MOVE_RIGHT * frame) % 65536;
+    let y = (row % h % 65536 + MOVE_DOWN * frame) % 65536;
+    ((light(scene, x, y) % 65536 + 20 * (i % 3) + 7 * (frame % 3)) % 256) as u8
 }
 
-fn next_frame(plan: Plan, place: Place) -> Place {
-    Place {
-        colour: 0,
-        column: 0,
-        row: 0,
-        frame: plus(place.frame, 1),
-        x: plus(place.x, plan.move_x),
-        y: plus(place.y, plan.move_y),
-    }
-}
-
-fn next_row(plan: Plan, place: Place) -> Place {
-    let row = plus(place.row, 1);
-    if row == plan.rows {
-        return next_frame(plan, place);
-    }
-    Place {
-        colour: 0,
-        column: 0,
-        row: row,
-        frame: place.frame,
-        x: place.x,
-        y: place.y,
-    }
-}
-
-fn next_pixel(plan: Plan, place: Place) -> Place {
-    let column = plus(place.column, 1);
-    if column == plan.w {
-        return next_row(plan, place);
-    }
-    Place {
-        colour: 0,
-        column: column,
-        row: place.row,
-        frame: place.frame,
-        x: place.x,
-        y: place.y,
-    }
-}
-
-fn next_byte(plan: Plan, place: Place) -> Place {
-    if place.colour == 2 {
-        return next_pixel(plan, place);
-    }
-    Place {
-        colour: plus(place.colour, 1),
-        column: place.column,
-        row: place.row,
-        frame: place.frame,
-        x: place.x,
-        y: place.y,
-    }
-}
-
-fn make_bytes(plan: Plan, out: &mut [u8]) {
-    let mut place = Place {
-        colour: 0,
-        column: 0,
-        row: 0,
-        frame: 0,
-        x: 0,
-        y: 0,
-    };
+fn make_bytes(scene: u64, w: u64, h: u64, out: &mut [u8]) {
     let mut i: usize = 0;
     while i < out.len() {
-        out[i] = made_byte(plan.scene, place);
-        place = next_byte(plan, place);
+        out[i] = made_byte(scene, w, h, i as u64);
         i += 1;
     }
 }
 
-// The made bytes of the record at a place.
+// The made bytes of the record at a place, as many as it needs.
 pub fn make_frames(data: &[u8], at: usize, out: &mut [u8]) {
-    let plan = Plan {
-        scene: field(data, at, SCENE) as u64,
-        w: field(data, at, WIDTH) as u64,
-        rows: field(data, at, VALUE4) as u64,
-        move_x: field(data, at, MOVE_X) as u64,
-        move_y: field(data, at, MOVE_Y) as u64,
-    };
-    make_bytes(plan, out);
+    let length = size(data, at, VALUE3);
+    if out.len() < length {
+        return;
+    }
+    let scene = field(data, at, SCENE) as u64;
+    let w = field(data, at, WIDTH) as u64;
+    let h = field(data, at, VALUE4) as u64;
+    make_bytes(scene, w, h, &mut out[0..length]);
 }

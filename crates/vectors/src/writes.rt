@@ -13,6 +13,7 @@ use crate::data::OUTPUT2;
 use crate::data::PERCENTILE;
 use crate::data::REFUSAL;
 use crate::data::TOLERANCE;
+use crate::data::VALUE1;
 use crate::data::WIDTH;
 use crate::data::field;
 use crate::data::input;
@@ -26,18 +27,35 @@ use crate::reads::MOST_WORDS;
 use crate::reads::first_words;
 use crate::reads::load_bitmap;
 
-fn byte_number(data: &[u8], at: usize, out: &mut [u8]) -> u32 {
-    let w = size(data, at, WIDTH);
-    let h = size(data, at, HEIGHT);
-    let bytes = input(data, at, INPUT1);
+fn write_number(data: &[u8], at: usize, raster: &[u8], out: &mut [u8]) -> u32 {
+    let answer = ppm::p6_write(size(data, at, WIDTH), size(data, at, HEIGHT), raster, out);
+    answers::stored(answer, size(data, at, VALUE1))
+}
+
+fn moved_number(data: &[u8], at: usize, raster: &[u8], out: &mut [u8]) -> u32 {
     let dx = signed(field(data, at, MOVE_X));
     let dy = signed(field(data, at, MOVE_Y));
+    let w = size(data, at, WIDTH);
+    answers::written(moved::moved(w, size(data, at, HEIGHT), dx, dy, raster, out))
+}
+
+fn grey_number(data: &[u8], at: usize, raster: &[u8], out: &mut [u8]) -> u32 {
+    let answer = frame::to_grey(size(data, at, WIDTH), size(data, at, HEIGHT), raster, out);
+    answers::written(answer)
+}
+
+fn halve_number(data: &[u8], at: usize, grey: &[u8], out: &mut [u8]) -> u32 {
+    let answer = frame::halve(size(data, at, WIDTH), size(data, at, HEIGHT), grey, out);
+    answers::written(answer)
+}
+
+fn byte_number(data: &[u8], at: usize, out: &mut [u8]) -> u32 {
+    let bytes = input(data, at, INPUT1);
     match field(data, at, CALL) {
-        1 => answers::written(frame::to_grey(w, h, bytes, out)),
-        2 => answers::written(frame::halve(w, h, bytes, out)),
-        13 => answers::stored(ppm::p6_write(w, h, bytes, out), data, at),
-        15 => answers::written(moved::moved(w, h, dx, dy, bytes, out)),
-        _ => answers::DIFFERS,
+        1 => grey_number(data, at, bytes, out),
+        2 => halve_number(data, at, bytes, out),
+        13 => write_number(data, at, bytes, out),
+        _ => moved_number(data, at, bytes, out),
     }
 }
 
@@ -47,15 +65,26 @@ fn bytes_agree(data: &[u8], at: usize, out: &mut [u8]) -> bool {
     n == field(data, at, REFUSAL) && bytes_are(out, data, second(data, at, OUTPUT1))
 }
 
-// Whether a call that writes bytes agrees, with this many lent.
-pub fn byte_record(data: &[u8], at: usize, length: usize, out: &mut [u8]) -> bool {
+// Whether a call that writes bytes agrees.
+pub fn byte_record(data: &[u8], at: usize, out: &mut [u8]) -> bool {
+    let length = size(data, at, OUTPUT1);
     if out.len() < length {
         return false;
     }
     bytes_agree(data, at, &mut out[0..length])
 }
 
-fn bitmaps_into(data: &[u8], at: usize, thresholds: &mut [u64], exclusions: &mut [u64]) -> u32 {
+// The first n words of a buffer; where there are fewer, none, and the call will refuse.
+fn lend_words(words: &mut [u64], n: usize) -> &mut [u64] {
+    if words.len() < n {
+        return &mut words[0..0];
+    }
+    &mut words[0..n]
+}
+
+fn bitmaps_number(data: &[u8], at: usize, thresholds: &mut [u64]) -> u32 {
+    let mut room = [WORD; MOST_WORDS];
+    let exclusions = lend_words(&mut room, size(data, at, OUTPUT2));
     let threshold = (field(data, at, PERCENTILE) % 256) as u8;
     let answer = pack::bitmaps(
         size(data, at, WIDTH),
@@ -67,44 +96,27 @@ fn bitmaps_into(data: &[u8], at: usize, thresholds: &mut [u64], exclusions: &mut
         exclusions,
     );
     if words_are(exclusions, data, second(data, at, OUTPUT2)) {
-        answers::written(answer)
-    } else {
-        answers::DIFFERS
+        return answers::written(answer);
     }
+    answers::DIFFERS
 }
 
-fn bitmaps_lent(
-    data: &[u8],
-    at: usize,
-    length: usize,
-    thresholds: &mut [u64],
-    exclusions: &mut [u64],
-) -> u32 {
-    if exclusions.len() < length {
-        return answers::DIFFERS;
-    }
-    bitmaps_into(data, at, thresholds, &mut exclusions[0..length])
-}
-
-fn bitmaps_number(data: &[u8], at: usize, thresholds: &mut [u64]) -> u32 {
-    let mut exclusions = [WORD; MOST_WORDS];
-    bitmaps_lent(
-        data,
-        at,
-        size(data, at, OUTPUT2),
-        thresholds,
-        &mut exclusions,
-    )
+fn shifted_number(data: &[u8], at: usize, bitmap: &[u64], out: &mut [u64]) -> u32 {
+    let dx = signed(field(data, at, MOVE_X));
+    let dy = signed(field(data, at, MOVE_Y));
+    let w = size(data, at, WIDTH);
+    answers::written(bitmap::shift(w, size(data, at, HEIGHT), dx, dy, bitmap, out))
 }
 
 fn shift_number(data: &[u8], at: usize, out: &mut [u64]) -> u32 {
     let mut bitmap = [0u64; MOST_WORDS];
     load_bitmap(data, at, INPUT1, &mut bitmap);
-    let bits = first_words(&bitmap, second(data, at, INPUT1));
-    let dx = signed(field(data, at, MOVE_X));
-    let dy = signed(field(data, at, MOVE_Y));
-    let w = size(data, at, WIDTH);
-    answers::written(bitmap::shift(w, size(data, at, HEIGHT), dx, dy, bits, out))
+    shifted_number(
+        data,
+        at,
+        first_words(&bitmap, second(data, at, INPUT1)),
+        out,
+    )
 }
 
 fn word_number(data: &[u8], at: usize, out: &mut [u64]) -> u32 {
@@ -120,8 +132,9 @@ fn words_agree(data: &[u8], at: usize, out: &mut [u64]) -> bool {
     n == field(data, at, REFUSAL) && words_are(out, data, second(data, at, OUTPUT1))
 }
 
-// Whether a call that writes words agrees, with this many lent.
-pub fn word_record(data: &[u8], at: usize, length: usize, out: &mut [u64]) -> bool {
+// Whether a call that writes words agrees.
+pub fn word_record(data: &[u8], at: usize, out: &mut [u64]) -> bool {
+    let length = size(data, at, OUTPUT1);
     if out.len() < length {
         return false;
     }

@@ -7,11 +7,14 @@ use Rattle.vectors.proofs.groups.run_groups.Statement.{statement}
 use Rattle.vectors.proofs.groups.run_groups.Tie as tie
 
 abbrev Inv-loop : tie.InvT-loop
-Inv-loop «data» count space₀ grey₀ words₀ tally₀ k₀ space grey words tally k =
+Inv-loop «data» space₀ grey₀ words₀ count tally₀ k₀ space grey words tally k =
     (length space ≡ length space₀) × (length grey ≡ length grey₀) × (length words ≡ length words₀)
 
 abbrev μ-loop : tie.MeasureT-loop
-μ-loop «data» count space₀ grey₀ words₀ tally₀ k₀ space grey words tally k = count - k
+μ-loop «data» space₀ grey₀ words₀ count tally₀ k₀ space grey words tally k = count - k
+
+number-at-requires : tie.Need-number-at-requires Inv-loop μ-loop
+number-at-requires c κs = search needs
 
 loop-holds : tie.Need-loop-holds Inv-loop μ-loop
 loop-holds c = search needs
@@ -58,6 +61,7 @@ run-groups-spec =
     (tie.spec
     Inv-loop
     μ-loop
+    number-at-requires
     loop-holds
     cast-at
     mul-at

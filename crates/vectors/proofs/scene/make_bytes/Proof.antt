@@ -7,10 +7,10 @@ use Rattle.vectors.proofs.scene.make_bytes.Statement.{statement}
 use Rattle.vectors.proofs.scene.make_bytes.Tie as tie
 
 abbrev Inv-loop : tie.InvT-loop
-Inv-loop plan out₀ place₀ i₀ out place i = length out ≡ length out₀
+Inv-loop scene w h out₀ i₀ out i = length out ≡ length out₀
 
 abbrev μ-loop : tie.MeasureT-loop
-μ-loop plan out₀ place₀ i₀ out place i = length out₀ - i
+μ-loop scene w h out₀ i₀ out i = length out₀ - i
 
 loop-holds : tie.Need-loop-holds Inv-loop μ-loop
 loop-holds c = search needs
@@ -20,9 +20,6 @@ made-byte-requires c κs = search needs
 
 slice-write-out : tie.Need-slice-write-out Inv-loop μ-loop
 slice-write-out c = search needs
-
-next-byte-requires : tie.Need-next-byte-requires Inv-loop μ-loop
-next-byte-requires c κs = search needs
 
 add-i : tie.Need-add-i Inv-loop μ-loop
 add-i c = search needs
@@ -48,7 +45,6 @@ make-bytes-spec =
     loop-holds
     made-byte-requires
     slice-write-out
-    next-byte-requires
     add-i
     loop-less
     loop-again
