@@ -11,8 +11,7 @@ use Rattle.rules.specs.Frames.{frameOf}
 use Rattle.rules.specs.Greys.{halved}
 use Rattle.rules.proofs.SumLaws.{order}
 use Rattle.rules.proofs.FrameLaws.{RowAt, FrameAt, frame-more, pixel-fits, row-ext}
-use Rattle.rules.proofs.GreyLaws.{second-columns}
-use Rattle.frame.specs.Places.{lowAt, highAt, secondAt, evenAt, itemAt, halfAt, Filled}
+use Rattle.frame.specs.Places.{secondAt, evenAt, halfAt, Filled}
 
 pub filled-none : (f : ℕ → ℕ) (l : List ℕ) → Filled f 0 l
 filled-none f l = record { done = λ k m. absurd (omega arith) }
@@ -28,22 +27,13 @@ filled-more f n l v room r e = record { done = λ k m. ⊎-elim (old k) (new k m
         let d : k ≡ n = omega arith in
         ap (λ (j : ℕ). getD (set l n v) j 0) d ∙ getD-set-same l n v 0 room ∙ e ∙ ap f (sym d)
 
--- the four small loops together give a block of results
-pub block-is : (l low high all block : List ℕ) (top bottom : ℕ)
-    → Filled (lowAt l top bottom) 64 low
-    → Filled (highAt l top bottom) 64 high
-    → Filled (secondAt low high) 64 all
-    → Filled (evenAt all) 32 block
-    → Filled (halfAt l top bottom) 32 block
-unfolding lowAt highAt secondAt evenAt halfAt
-block-is l low high all block top bottom a b c d = record { done = result }
-  where
-    result : (k : ℕ) → k < 32 → getD block k 0 ≡ halfAt l top bottom k
-    result k m =
-        d .done k m
-        ∙ c .done (2 * k) (omega arith)
-        ∙ rw (a .done (2 * k) (omega arith), a .done (2 * k + 1) (omega arith), b .done (2 * k) (omega arith), b .done (2 * k + 1) (omega arith))
-        (sym (second-columns (getD l (top + 2 * k) 0) (getD l (top + (2 * k + 1)) 0) (getD l (bottom + 2 * k) 0) (getD l (bottom + (2 * k + 1)) 0)))
+-- every other second smallest is a result
+pub even-half : (l all : List ℕ) (top bottom : ℕ) → Filled (secondAt l top bottom) 64 all → (k : ℕ) → k < 32 → evenAt all k ≡ halfAt l top bottom k
+unfolding secondAt evenAt halfAt
+even-half l all top bottom filled k m =
+    let a : top + 2 * k + 1 ≡ top + (2 * k + 1) = omega arith in
+    let b : bottom + 2 * k + 1 ≡ bottom + (2 * k + 1) = omega arith in
+    rw (sym a, sym b) (filled .done (2 * k) (omega arith))
 
 -- The rule of a row, from its place k on.
 pub half-on : (l : List ℕ) (top bottom k j : ℕ) → halfAt l (top + 2 * k) (bottom + 2 * k) j ≡ halfAt l top bottom (k + j)
@@ -78,17 +68,16 @@ row-join to f g before mid after k m a b same = record {
         ap (λ (j : ℕ). getD after j 0) e ∙ b .done (i - k) (omega arith) ∙ same (i - k) (omega arith) ∙ ap f d
 
 -- one more block of a row
-pub block-more : (l block before mid after : List ℕ) (top bottom to b : ℕ)
+pub block-more : (l all before mid after : List ℕ) (top bottom to b : ℕ)
     → RowAt to (halfAt l top bottom) before (32 * b) mid
-    → Filled (halfAt l (top + 2 * (32 * b)) (bottom + 2 * (32 * b))) 32 block
-    → RowAt (to + 32 * b) (itemAt block) mid 32 after
+    → ((k : ℕ) → k < 32 → evenAt all k ≡ halfAt l (top + 2 * (32 * b)) (bottom + 2 * (32 * b)) k)
+    → RowAt (to + 32 * b) (evenAt all) mid 32 after
     → RowAt to (halfAt l top bottom) before (32 * (b + 1)) after
-unfolding itemAt
-block-more l block before mid after top bottom to b a filled r =
+block-more l all before mid after top bottom to b a results r =
     let e : 32 * b + 32 ≡ 32 * (b + 1) = omega arith in
     rw e at
-    (row-join to (halfAt l top bottom) (itemAt block) before mid after (32 * b) 32 a r
-    (λ j m. filled .done j m ∙ half-on l top bottom (32 * b) j))
+    (row-join to (halfAt l top bottom) (evenAt all) before mid after (32 * b) 32 a r
+    (λ j m. results j m ∙ half-on l top bottom (32 * b) j))
 
 -- the rest of a row, after its first k results
 pub rest-more : (l before mid after : List ℕ) (top bottom to k n : ℕ) → k ≤ n

@@ -1,7 +1,7 @@
 -- The pixel rules at places of a flat list.
 use mathlib.Core.Path.{_≡_}
 use mathlib.Core.List.{List}
-use Prim.Native.Nat.{ℕ, _+_, _*_, _<_, _≤_, min, max}
+use Prim.Native.Nat.{ℕ, _+_, _*_, _<_, _≤_}
 use lib.ListN.{getD}
 use Rattle.rules.specs.Greys.{grey, secondSmallest}
 
@@ -9,19 +9,14 @@ use Rattle.rules.specs.Greys.{grey, secondSmallest}
 unfoldable pub greyAt : List ℕ → ℕ → ℕ
 greyAt raster i = grey (getD raster (3 * i) 0) (getD raster (3 * i + 1) 0) (getD raster (3 * i + 2) 0)
 
--- column k of two rows whose bytes begin at `top` and at `bottom`: the lower and the higher of its two bytes
-unfoldable pub lowAt : List ℕ → ℕ → ℕ → ℕ → ℕ
-lowAt l top bottom k = min (getD l (top + k) 0) (getD l (bottom + k) 0)
-
-unfoldable pub highAt : List ℕ → ℕ → ℕ → ℕ → ℕ
-highAt l top bottom k = max (getD l (top + k) 0) (getD l (bottom + k) 0)
-
--- the second smallest of columns k and k + 1, by their lower and higher bytes
-unfoldable pub secondAt : List ℕ → List ℕ → ℕ → ℕ
-secondAt low high k = min (max (getD low k 0) (getD low (k + 1) 0)) (min (getD high k 0) (getD high (k + 1) 0))
-
-unfoldable pub itemAt : List ℕ → ℕ → ℕ
-itemAt l k = getD l k 0
+-- the second smallest of columns k and k + 1 of two rows whose bytes begin at `top` and at `bottom`
+unfoldable pub secondAt : List ℕ → ℕ → ℕ → ℕ → ℕ
+secondAt l top bottom k =
+    secondSmallest
+    (getD l (top + k) 0)
+    (getD l (top + k + 1) 0)
+    (getD l (bottom + k) 0)
+    (getD l (bottom + k + 1) 0)
 
 unfoldable pub evenAt : List ℕ → ℕ → ℕ
 evenAt l k = getD l (2 * k) 0

@@ -1,13 +1,13 @@
-// The halving's core. A block of 32 results goes through small local arrays in loops without a
+// The halving's core. A block of 32 results goes through one small local array in loops without a
 // branch, which the compiler takes many bytes at a time.
 
 ghost use mathlib.Core.Path.{_≡_};
-ghost use Prim.Native.Nat.{_+_, _*_, _/_, _≤_, min, max};
+ghost use Prim.Native.Nat.{_+_, _*_, _-_, _/_, _≤_, min, max};
 ghost use lib.ListN.{length};
 ghost use Rattle.rules.specs.Frames.{frameOf};
 ghost use Rattle.rules.specs.Greys.{secondSmallest, halved};
 ghost use Rattle.rules.proofs.FrameLaws.{RowAt, FrameAt};
-ghost use Rattle.frame.specs.Places.{lowAt, highAt, secondAt, evenAt, itemAt, halfAt, Filled, RowFits};
+ghost use Rattle.frame.specs.Places.{secondAt, evenAt, halfAt, Filled, RowFits};
 
 fn lower(a: u8, b: u8) -> u8
     ensures { λ r. ⌜ r ≡ min a b ⌝ }
@@ -34,103 +34,71 @@ pub fn second_smallest(a: u8, b: u8, c: u8, d: u8) -> u8
     second(lower(a, c), lower(b, d), upper(a, c), upper(b, d))
 }
 
-// The lower of each of 64 neighbouring columns of two rows. (A byte more, so that the last column
-// has a neighbour in `seconds` too: a loop of whole vectors has no rest.)
-fn lows(src: &[u8], top: usize, bottom: usize) -> [u8; 65]
-    requires { ⌜ top + 64 ≤ length (now src) ⌝ }
-    requires { ⌜ bottom + 64 ≤ length (now src) ⌝ }
-    ensures { λ r. ⌜ Filled (lowAt (now (src .entry)) top bottom) 64 r ⌝ }
-{
-    let mut low = [0u8; 65];
-    let mut k: usize = 0;
-    while k < 64 {
-        low[k] = lower(src[top + k], src[bottom + k]);
-        k += 1;
-    }
-    low
-}
-
-// The higher of each, likewise.
-fn highs(src: &[u8], top: usize, bottom: usize) -> [u8; 65]
-    requires { ⌜ top + 64 ≤ length (now src) ⌝ }
-    requires { ⌜ bottom + 64 ≤ length (now src) ⌝ }
-    ensures { λ r. ⌜ Filled (highAt (now (src .entry)) top bottom) 64 r ⌝ }
-{
-    let mut high = [0u8; 65];
-    let mut k: usize = 0;
-    while k < 64 {
-        high[k] = upper(src[top + k], src[bottom + k]);
-        k += 1;
-    }
-    high
-}
-
-// The second smallest of each column and its neighbour, unwanted ones too: a step of one keeps the
-// loop plain, and `evens` picks.
-fn seconds(low: &[u8; 65], high: &[u8; 65]) -> [u8; 64]
-    ensures { λ r. ⌜ Filled (secondAt (now (low .entry)) (now (high .entry))) 64 r ⌝ }
+// The second smallest of each of 64 neighbouring columns of two rows and the column right of it,
+// unwanted ones too: a step of one keeps the loop plain, and `store_block` picks. The last column's
+// neighbour is one byte more than 32 results need.
+pub fn seconds(src: &[u8], top: usize, bottom: usize) -> [u8; 64]
+    requires { ⌜ top + 65 ≤ length (now src) ⌝ }
+    requires { ⌜ bottom + 65 ≤ length (now src) ⌝ }
+    ensures { λ r. ⌜ Filled (secondAt (now (src .entry)) top bottom) 64 r ⌝ }
 {
     let mut all = [0u8; 64];
     let mut k: usize = 0;
     while k < 64 {
-        all[k] = second(low[k], low[k + 1], high[k], high[k + 1]);
+        all[k] = second_smallest(
+            src[top + k],
+            src[top + k + 1],
+            src[bottom + k],
+            src[bottom + k + 1],
+        );
         k += 1;
     }
     all
 }
 
-fn evens(all: &[u8; 64]) -> [u8; 32]
-    ensures { λ r. ⌜ Filled (evenAt (now (all .entry))) 32 r ⌝ }
-{
-    let mut block = [0u8; 32];
-    let mut k: usize = 0;
-    while k < 32 {
-        block[k] = all[2 * k];
-        k += 1;
-    }
-    block
-}
-
-// 32 neighbouring results of two rows.
-pub fn halve_block(src: &[u8], top: usize, bottom: usize) -> [u8; 32]
-    requires { ⌜ top + 64 ≤ length (now src) ⌝ }
-    requires { ⌜ bottom + 64 ≤ length (now src) ⌝ }
-    ensures { λ r. ⌜ Filled (halfAt (now (src .entry)) top bottom) 32 r ⌝ }
-{
-    let low = lows(src, top, bottom);
-    let high = highs(src, top, bottom);
-    let all = seconds(&low, &high);
-    evens(&all)
-}
-
-// A block's results, written from place `to` on.
-pub fn store_block(block: &[u8; 32], dst: &mut [u8], to: usize)
+// A block's 32 results, every other one of `all`, written from place `to` on.
+pub fn store_block(all: &[u8; 64], dst: &mut [u8], to: usize)
     requires { ⌜ to + 32 ≤ length (now dst) ⌝ }
-    ensures { λ _. ⌜ RowAt to (itemAt (now (block .entry))) (now (dst .entry)) 32 (now (dst .exit)) ⌝ }
+    ensures { λ _. ⌜ RowAt to (evenAt (now (all .entry))) (now (dst .entry)) 32 (now (dst .exit)) ⌝ }
 {
     let mut k: usize = 0;
     while k < 32 {
-        dst[to + k] = block[k];
+        dst[to + k] = all[2 * k];
         k += 1;
     }
 }
 
-// The first results of two rows, as many whole blocks as n holds.
-fn halve_blocks(src: &[u8], top: usize, bottom: usize, dst: &mut [u8], to: usize, n: usize)
-    requires { ⌜ RowFits (length (now src)) top bottom (length (now dst)) to n ⌝ }
-    ensures { λ _. ⌜ RowAt to (halfAt (now (src .entry)) top bottom) (now (dst .entry)) (32 * (n / 32)) (now (dst .exit)) ⌝ }
+// How many blocks of n results can be taken, with `bytes` bytes from the lower row's begin to the
+// source's end: all whole ones, unless the last one's byte more is missing.
+fn block_count(n: usize, bytes: usize) -> usize
+    requires { ⌜ 2 * n ≤ bytes ⌝ }
+    ensures within { λ r. ⌜ 32 * r ≤ n ⌝ }
+    ensures more { λ r. ⌜ 64 * r ≤ bytes - 1 ⌝ }
 {
-    let blocks = n / 32;
+    let whole = n / 32;
+    if whole == 0 {
+        return 0;
+    }
+    if 64 * whole < bytes { whole } else { whole - 1 }
+}
+
+// The first results of two rows, `blocks` blocks of them.
+fn halve_blocks(src: &[u8], top: usize, bottom: usize, dst: &mut [u8], to: usize, blocks: usize)
+    requires { ⌜ top ≤ bottom ⌝ }
+    requires { ⌜ 64 * blocks ≤ length (now src) - bottom - 1 ⌝ }
+    requires { ⌜ to + 32 * blocks ≤ length (now dst) ⌝ }
+    ensures { λ _. ⌜ RowAt to (halfAt (now (src .entry)) top bottom) (now (dst .entry)) (32 * blocks) (now (dst .exit)) ⌝ }
+{
     let mut b: usize = 0;
     while b < blocks {
         let k = 32 * b;
-        let block = halve_block(src, top + 2 * k, bottom + 2 * k);
-        store_block(&block, dst, to + k);
+        let all = seconds(src, top + 2 * k, bottom + 2 * k);
+        store_block(&all, dst, to + k);
         b += 1;
     }
 }
 
-// The results of two rows one by one, for what is left beside whole blocks.
+// The results of two rows one by one, for what is left beside the blocks.
 fn halve_rest(src: &[u8], top: usize, bottom: usize, dst: &mut [u8], to: usize, n: usize)
     requires { ⌜ RowFits (length (now src)) top bottom (length (now dst)) to n ⌝ }
     ensures { λ _. ⌜ RowAt to (halfAt (now (src .entry)) top bottom) (now (dst .entry)) n (now (dst .exit)) ⌝ }
@@ -151,11 +119,13 @@ fn halve_rest(src: &[u8], top: usize, bottom: usize, dst: &mut [u8], to: usize, 
 
 // The n results of two rows whose bytes begin at `top` and at `bottom`, written from place `to` on.
 fn halve_row(src: &[u8], top: usize, bottom: usize, dst: &mut [u8], to: usize, n: usize)
+    requires { ⌜ top ≤ bottom ⌝ }
     requires { ⌜ RowFits (length (now src)) top bottom (length (now dst)) to n ⌝ }
     ensures { λ _. ⌜ RowAt to (halfAt (now (src .entry)) top bottom) (now (dst .entry)) n (now (dst .exit)) ⌝ }
 {
-    halve_blocks(src, top, bottom, dst, to, n);
-    let k = 32 * (n / 32);
+    let blocks = block_count(n, src.len() - bottom);
+    halve_blocks(src, top, bottom, dst, to, blocks);
+    let k = 32 * blocks;
     halve_rest(src, top + 2 * k, bottom + 2 * k, dst, to + k, n - k);
 }
 

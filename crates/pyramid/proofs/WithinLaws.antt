@@ -8,8 +8,8 @@ use lib.Seq.{getD-drop}
 use Rattle.rules.specs.Frames.{frameOf}
 use Rattle.rules.specs.Greys.{halved}
 use Rattle.rules.proofs.FrameLaws.{RowAt, FrameAt, row-ext}
-use Rattle.frame.specs.Places.{halfAt, itemAt, Filled, RowFits}
-use Rattle.frame.proofs.PlaceLaws.{block-more, rest-more, half-more, rows-fit}
+use Rattle.frame.specs.Places.{secondAt, evenAt, halfAt, Filled, RowFits}
+use Rattle.frame.proofs.PlaceLaws.{even-half, block-more, rest-more, half-more, rows-fit}
 
 -- Lists that agree under a place have the same results of rows that end there.
 pub half-under : (before after : List ℕ) (to top bottom k : ℕ)
@@ -37,16 +37,17 @@ half-drop l from top bottom k =
     rw (a, b, c, d) (simp getD-drop)
 
 -- one more block, of rows read after the blocks before it were written
-pub block-within : (before mid after block : List ℕ) (top bottom to n b : ℕ)
+pub block-within : (before mid after all : List ℕ) (top bottom to n b : ℕ)
     → RowFits to top bottom (length before) to n
     → b < n / 32
     → RowAt to (halfAt before top bottom) before (32 * b) mid
-    → Filled (halfAt mid (top + 2 * (32 * b)) (bottom + 2 * (32 * b))) 32 block
-    → RowAt (to + 32 * b) (itemAt block) mid 32 after
+    → Filled (secondAt mid (top + 2 * (32 * b)) (bottom + 2 * (32 * b))) 64 all
+    → RowAt (to + 32 * b) (evenAt all) mid 32 after
     → RowAt to (halfAt before top bottom) before (32 * (b + 1)) after
-block-within before mid after block top bottom to n b fits l a filled =
-    block-more before block before mid after top bottom to b a
-    (record { done = λ k m. filled .done k m ∙ half-under before mid to (top + 2 * (32 * b)) (bottom + 2 * (32 * b)) k (a .under) (omega arith) (omega arith) })
+block-within before mid after all top bottom to n b fits l a filled =
+    block-more before all before mid after top bottom to b a
+    (λ k m. even-half mid all (top + 2 * (32 * b)) (bottom + 2 * (32 * b)) filled k m
+    ∙ half-under before mid to (top + 2 * (32 * b)) (bottom + 2 * (32 * b)) k (a .under) (omega arith) (omega arith))
 
 -- the rest of a row, read after its first k results were written
 pub rest-within : (before mid after : List ℕ) (top bottom to k n : ℕ)

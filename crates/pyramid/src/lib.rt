@@ -10,7 +10,7 @@ ghost use Rattle.rules.proofs.FrameLaws.{RowAt, FrameAt};
 ghost use Rattle.frame.specs.Places.{halfAt, RowFits};
 
 // The first results of two rows, as many whole blocks as n holds. Both rows end at or before `to`,
-// so no result overwrites them.
+// so no result overwrites them, and the byte more that a block reads is there.
 fn blocks_within(grey: &mut [u8], top: usize, bottom: usize, to: usize, n: usize)
     requires { ⌜ RowFits to top bottom (length (now grey)) to n ⌝ }
     ensures { λ _. ⌜ RowAt to (halfAt (now (grey .entry)) top bottom) (now (grey .entry)) (32 * (n / 32)) (now (grey .exit)) ⌝ }
@@ -19,8 +19,8 @@ fn blocks_within(grey: &mut [u8], top: usize, bottom: usize, to: usize, n: usize
     let mut b: usize = 0;
     while b < blocks {
         let k = 32 * b;
-        let block = halving::halve_block(grey, top + 2 * k, bottom + 2 * k);
-        halving::store_block(&block, grey, to + k);
+        let all = halving::seconds(grey, top + 2 * k, bottom + 2 * k);
+        halving::store_block(&all, grey, to + k);
         b += 1;
     }
 }

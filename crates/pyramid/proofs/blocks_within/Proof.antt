@@ -21,20 +21,20 @@ loop-holds c = (omega arith, row-none _ _ _)
 mul-k : tie.Need-mul-k Inv-loop μ-loop
 mul-k c = search needs
 
-mul-halve-block : tie.Need-mul-halve-block Inv-loop μ-loop
-mul-halve-block c = search needs
+mul-seconds : tie.Need-mul-seconds Inv-loop μ-loop
+mul-seconds c = search needs
 
-add-halve-block : tie.Need-add-halve-block Inv-loop μ-loop
-add-halve-block c = search needs
+add-seconds : tie.Need-add-seconds Inv-loop μ-loop
+add-seconds c = search needs
 
-mul-halve-block-2 : tie.Need-mul-halve-block-2 Inv-loop μ-loop
-mul-halve-block-2 c = search needs
+mul-seconds-2 : tie.Need-mul-seconds-2 Inv-loop μ-loop
+mul-seconds-2 c = search needs
 
-add-halve-block-2 : tie.Need-add-halve-block-2 Inv-loop μ-loop
-add-halve-block-2 c = search needs
+add-seconds-2 : tie.Need-add-seconds-2 Inv-loop μ-loop
+add-seconds-2 c = search needs
 
-halve-block-requires : tie.Need-halve-block-requires Inv-loop μ-loop
-halve-block-requires c κs = search needs
+seconds-requires : tie.Need-seconds-requires Inv-loop μ-loop
+seconds-requires c κs = search needs
 
 add-store-block : tie.Need-add-store-block Inv-loop μ-loop
 add-store-block c = search needs
@@ -60,7 +60,7 @@ loop-again c =
           (a .grey .now)
           (lp .grey)
           (stored .store-block .last .1 .0)
-          (made .halve-block .result)
+          (made .seconds .result)
           (a .top)
           (a .bottom)
           (a .to)
@@ -69,7 +69,7 @@ loop-again c =
           (start .pre)
           (made .before .before .loop-test .taken)
           (lp .inv .1)
-          (made .halve-block .ensures)
+          (made .seconds .ensures)
           (stored .store-block .ensures),
     )
 
@@ -90,11 +90,11 @@ blocks-within-spec =
     μ-loop
     loop-holds
     mul-k
-    mul-halve-block
-    add-halve-block
-    mul-halve-block-2
-    add-halve-block-2
-    halve-block-requires
+    mul-seconds
+    add-seconds
+    mul-seconds-2
+    add-seconds-2
+    seconds-requires
     add-store-block
     store-block-requires
     add-b

@@ -1,19 +1,19 @@
 -- The invariant: the results of the first b blocks are written, and nothing else has changed.
 use mathlib.Core.Path.{_≡_}
-use Prim.Native.Nat.{_*_, _≤_, _-_, _/_}
+use Prim.Native.Nat.{_*_, _≤_, _-_}
 use native.Mathlib.Omega.{arith}
 use borrow.Author.Needs.{needs}
 use Rattle.rules.proofs.FrameLaws.{RowAt, row-none}
 use Rattle.frame.specs.Places.{halfAt}
-use Rattle.frame.proofs.PlaceLaws.{block-more}
+use Rattle.frame.proofs.PlaceLaws.{even-half, block-more}
 use Rattle.frame.proofs.halving.halve_blocks.Statement.{statement}
 use Rattle.frame.proofs.halving.halve_blocks.Tie as tie
 
 abbrev Inv-loop : tie.InvT-loop
-Inv-loop src top bottom dst₀ to n blocks b₀ dst b = (b ≤ blocks) × RowAt to (halfAt src top bottom) dst₀ (32 * b) dst
+Inv-loop src top bottom dst₀ to blocks b₀ dst b = (b ≤ blocks) × RowAt to (halfAt src top bottom) dst₀ (32 * b) dst
 
 abbrev μ-loop : tie.MeasureT-loop
-μ-loop src top bottom dst₀ to n blocks b₀ dst b = blocks - b
+μ-loop src top bottom dst₀ to blocks b₀ dst b = blocks - b
 
 loop-holds : tie.Need-loop-holds Inv-loop μ-loop
 loop-holds c = (omega arith, row-none _ _ _)
@@ -21,20 +21,20 @@ loop-holds c = (omega arith, row-none _ _ _)
 mul-k : tie.Need-mul-k Inv-loop μ-loop
 mul-k c = search needs
 
-mul-halve-block : tie.Need-mul-halve-block Inv-loop μ-loop
-mul-halve-block c = search needs
+mul-seconds : tie.Need-mul-seconds Inv-loop μ-loop
+mul-seconds c = search needs
 
-add-halve-block : tie.Need-add-halve-block Inv-loop μ-loop
-add-halve-block c = search needs
+add-seconds : tie.Need-add-seconds Inv-loop μ-loop
+add-seconds c = search needs
 
-mul-halve-block-2 : tie.Need-mul-halve-block-2 Inv-loop μ-loop
-mul-halve-block-2 c = search needs
+mul-seconds-2 : tie.Need-mul-seconds-2 Inv-loop μ-loop
+mul-seconds-2 c = search needs
 
-add-halve-block-2 : tie.Need-add-halve-block-2 Inv-loop μ-loop
-add-halve-block-2 c = search needs
+add-seconds-2 : tie.Need-add-seconds-2 Inv-loop μ-loop
+add-seconds-2 c = search needs
 
-halve-block-requires : tie.Need-halve-block-requires Inv-loop μ-loop
-halve-block-requires c κs = search needs
+seconds-requires : tie.Need-seconds-requires Inv-loop μ-loop
+seconds-requires c κs = search needs
 
 add-store-block : tie.Need-add-store-block Inv-loop μ-loop
 add-store-block c = search needs
@@ -57,7 +57,7 @@ loop-again c =
       omega arith,
       block-more
           (a .src .now)
-          (made .halve-block .result)
+          (made .seconds .result)
           (a .dst .now)
           (lp .dst)
           (stored .store-block .last .1 .0)
@@ -66,7 +66,7 @@ loop-again c =
           (a .to)
           (lp .b)
           (lp .inv .1)
-          (made .halve-block .ensures)
+          (even-half (a .src .now) (made .seconds .result) _ _ (made .seconds .ensures))
           (stored .store-block .ensures),
     )
 
@@ -76,7 +76,7 @@ same-length c = search needs
 returns : tie.Need-returns Inv-loop μ-loop
 returns c =
     let lp = c .before .loop in
-    let e : lp .b ≡ c .before .before .before .before .args .n / 32 = omega arith in
+    let e : lp .b ≡ c .before .before .before .before .args .blocks = omega arith in
     rw e at (lp .inv .1)
 
 pub halve-blocks-spec : {M : Type 1} → statement M
@@ -87,11 +87,11 @@ halve-blocks-spec =
     μ-loop
     loop-holds
     mul-k
-    mul-halve-block
-    add-halve-block
-    mul-halve-block-2
-    add-halve-block-2
-    halve-block-requires
+    mul-seconds
+    add-seconds
+    mul-seconds-2
+    add-seconds-2
+    seconds-requires
     add-store-block
     store-block-requires
     add-b

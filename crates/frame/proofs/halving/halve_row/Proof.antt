@@ -1,10 +1,16 @@
 -- The blocks' results and the rest's lie side by side.
-use Prim.Native.Nat.{_*_, _/_}
+use Prim.Native.Nat.{_*_}
 use native.Mathlib.Omega.{arith}
 use borrow.Author.Needs.{needs}
 use Rattle.frame.proofs.PlaceLaws.{rest-more}
 use Rattle.frame.proofs.halving.halve_row.Statement.{statement}
 use Rattle.frame.proofs.halving.halve_row.Tie as tie
+
+sub-block-count : tie.Need-sub-block-count
+sub-block-count c = search needs
+
+block-count-requires : tie.Need-block-count-requires
+block-count-requires c κs = search needs
 
 halve-blocks-requires : tie.Need-halve-blocks-requires
 halve-blocks-requires c κs = search needs
@@ -40,7 +46,8 @@ returns : tie.Need-returns
 returns c =
     let rest = c .before .before in
     let blocks = rest .before .before .before .before in
-    let a = blocks .before .before .before .before .args in
+    let count = blocks .before .before in
+    let a = count .before .before .before .args in
     rest-more
     (a .src .now)
     (a .dst .now)
@@ -49,7 +56,7 @@ returns c =
     (a .top)
     (a .bottom)
     (a .to)
-    (32 * (a .n / 32))
+    (32 * count .block-count .result)
     (a .n)
     (omega arith)
     (blocks .halve-blocks .ensures)
@@ -59,6 +66,8 @@ pub halve-row-spec : {M : Type 1} → statement M
 halve-row-spec =
     tie.close
     (tie.spec
+    sub-block-count
+    block-count-requires
     halve-blocks-requires
     mul-k
     mul-halve-rest

@@ -10,34 +10,46 @@ use Rattle.frame.proofs.halving.seconds.Statement.{statement}
 use Rattle.frame.proofs.halving.seconds.Tie as tie
 
 abbrev Inv-loop : tie.InvT-loop
-Inv-loop low high all₀ k₀ all k = (k ≤ 64) × (length all ≡ 64) × Filled (secondAt low high) k all
+Inv-loop src top bottom all₀ k₀ all k = (k ≤ 64) × (length all ≡ 64) × Filled (secondAt src top bottom) k all
 
 abbrev μ-loop : tie.MeasureT-loop
-μ-loop low high all₀ k₀ all k = 64 - k
+μ-loop src top bottom all₀ k₀ all k = 64 - k
 
 loop-holds : tie.Need-loop-holds Inv-loop μ-loop
 loop-holds c = (omega arith, refl, filled-none _ _)
 
-element-copy-out-second : tie.Need-element-copy-out-second Inv-loop μ-loop
-element-copy-out-second c = search needs
+add-second-smallest : tie.Need-add-second-smallest Inv-loop μ-loop
+add-second-smallest c = search needs
 
-add-second : tie.Need-add-second Inv-loop μ-loop
-add-second c = search needs
+shared-slice-read-second-smallest : tie.Need-shared-slice-read-second-smallest Inv-loop μ-loop
+shared-slice-read-second-smallest c = search needs
 
-element-copy-out-second-2 : tie.Need-element-copy-out-second-2 Inv-loop μ-loop
-element-copy-out-second-2 c = search needs
+add-second-smallest-2 : tie.Need-add-second-smallest-2 Inv-loop μ-loop
+add-second-smallest-2 c = search needs
 
-element-copy-out-second-3 : tie.Need-element-copy-out-second-3 Inv-loop μ-loop
-element-copy-out-second-3 c = search needs
+add-second-smallest-3 : tie.Need-add-second-smallest-3 Inv-loop μ-loop
+add-second-smallest-3 c = search needs
 
-add-second-2 : tie.Need-add-second-2 Inv-loop μ-loop
-add-second-2 c = search needs
+shared-slice-read-second-smallest-2 : tie.Need-shared-slice-read-second-smallest-2 Inv-loop μ-loop
+shared-slice-read-second-smallest-2 c = search needs
 
-element-copy-out-second-4 : tie.Need-element-copy-out-second-4 Inv-loop μ-loop
-element-copy-out-second-4 c = search needs
+add-second-smallest-4 : tie.Need-add-second-smallest-4 Inv-loop μ-loop
+add-second-smallest-4 c = search needs
 
-second-requires : tie.Need-second-requires Inv-loop μ-loop
-second-requires c κs = search needs
+shared-slice-read-second-smallest-3 : tie.Need-shared-slice-read-second-smallest-3 Inv-loop μ-loop
+shared-slice-read-second-smallest-3 c = search needs
+
+add-second-smallest-5 : tie.Need-add-second-smallest-5 Inv-loop μ-loop
+add-second-smallest-5 c = search needs
+
+add-second-smallest-6 : tie.Need-add-second-smallest-6 Inv-loop μ-loop
+add-second-smallest-6 c = search needs
+
+shared-slice-read-second-smallest-4 : tie.Need-shared-slice-read-second-smallest-4 Inv-loop μ-loop
+shared-slice-read-second-smallest-4 c = search needs
+
+second-smallest-requires : tie.Need-second-smallest-requires Inv-loop μ-loop
+second-smallest-requires c κs = search needs
 
 array-write-all : tie.Need-array-write-all Inv-loop μ-loop
 array-write-all c = search needs
@@ -53,8 +65,8 @@ unfolding secondAt
 loop-again c =
     let lp = c .before .before .before .before .before .before .loop in (
       omega arith,
-      length-set (lp .all) (lp .k) (c .second .result) ∙ lp .inv .1,
-      filled-more _ (lp .k) (lp .all) (c .second .result) (omega arith) (lp .inv .2) (c .second .ensures),
+      length-set (lp .all) (lp .k) (c .second-smallest .result) ∙ lp .inv .1,
+      filled-more _ (lp .k) (lp .all) (c .second-smallest .result) (omega arith) (lp .inv .2) (c .second-smallest .ensures),
     )
 
 returns : tie.Need-returns Inv-loop μ-loop
@@ -70,13 +82,17 @@ seconds-spec =
     Inv-loop
     μ-loop
     loop-holds
-    element-copy-out-second
-    add-second
-    element-copy-out-second-2
-    element-copy-out-second-3
-    add-second-2
-    element-copy-out-second-4
-    second-requires
+    add-second-smallest
+    shared-slice-read-second-smallest
+    add-second-smallest-2
+    add-second-smallest-3
+    shared-slice-read-second-smallest-2
+    add-second-smallest-4
+    shared-slice-read-second-smallest-3
+    add-second-smallest-5
+    add-second-smallest-6
+    shared-slice-read-second-smallest-4
+    second-smallest-requires
     array-write-all
     add-k
     loop-less

@@ -1,22 +1,25 @@
--- The invariant: the first k bytes are stored, and nothing else has changed.
+-- The invariant: the first k results are stored, and nothing else has changed.
 use mathlib.Core.Path.{_≡_, refl}
-use Prim.Native.Nat.{_≤_, _-_}
+use Prim.Native.Nat.{_*_, _≤_, _-_}
 use native.Mathlib.Omega.{arith}
 use lib.ListN.{getD}
 use borrow.Author.Needs.{needs}
 use Rattle.rules.proofs.FrameLaws.{RowAt, row-none, row-more}
-use Rattle.frame.specs.Places.{itemAt}
+use Rattle.frame.specs.Places.{evenAt}
 use Rattle.frame.proofs.halving.store_block.Statement.{statement}
 use Rattle.frame.proofs.halving.store_block.Tie as tie
 
 abbrev Inv-loop : tie.InvT-loop
-Inv-loop block dst₀ to k₀ dst k = (k ≤ 32) × RowAt to (itemAt block) dst₀ k dst
+Inv-loop all dst₀ to k₀ dst k = (k ≤ 32) × RowAt to (evenAt all) dst₀ k dst
 
 abbrev μ-loop : tie.MeasureT-loop
-μ-loop block dst₀ to k₀ dst k = 32 - k
+μ-loop all dst₀ to k₀ dst k = 32 - k
 
 loop-holds : tie.Need-loop-holds Inv-loop μ-loop
 loop-holds c = (omega arith, row-none _ _ _)
+
+mul-dst : tie.Need-mul-dst Inv-loop μ-loop
+mul-dst c = search needs
 
 element-copy-out-dst : tie.Need-element-copy-out-dst Inv-loop μ-loop
 element-copy-out-dst c = search needs
@@ -34,11 +37,11 @@ loop-less : tie.Need-loop-less Inv-loop μ-loop
 loop-less c = search needs
 
 loop-again : tie.Need-loop-again Inv-loop μ-loop
-unfolding itemAt
+unfolding evenAt
 loop-again c =
     let lp = c .before .before .loop in
     let a = c .before .before .before .args in
-    (omega arith, row-more _ (itemAt (a .block .now)) _ (lp .k) (lp .dst) (getD (a .block .now) (lp .k) 0) (omega arith) (lp .inv .1) refl)
+    (omega arith, row-more _ (evenAt (a .all .now)) _ (lp .k) (lp .dst) (getD (a .all .now) (2 * lp .k) 0) (omega arith) (lp .inv .1) refl)
 
 same-length : tie.Need-same-length Inv-loop μ-loop
 same-length c = search needs
@@ -56,6 +59,7 @@ store-block-spec =
     Inv-loop
     μ-loop
     loop-holds
+    mul-dst
     element-copy-out-dst
     add-dst
     slice-write-dst
