@@ -1,96 +1,58 @@
--- The invariant: the first i grey values are written, and nothing else has changed.
-use mathlib.Core.Path.{_≡_}
-use Prim.Native.Nat.{_≤_, _-_}
+-- The blocks' grey values and the rest's lie side by side.
+use Prim.Native.Nat.{_*_, _/_}
 use native.Mathlib.Omega.{arith}
 use borrow.Author.Needs.{needs}
-use Rattle.rules.proofs.FrameLaws.{RowAt, row-none, row-more}
-use Rattle.frame.specs.Places.{greyAt}
+use Rattle.frame.proofs.HalfLaws.{grey-rest}
 use Rattle.frame.proofs.conversion.convert.Statement.{statement}
 use Rattle.frame.proofs.conversion.convert.Tie as tie
 
-abbrev Inv-loop : tie.InvT-loop
-Inv-loop raster n grey₀ to i₀ grey i = (i ≤ n) × RowAt to (greyAt raster) grey₀ i grey
+convert-blocks-requires : tie.Need-convert-blocks-requires
+convert-blocks-requires c κs = search needs
 
-abbrev μ-loop : tie.MeasureT-loop
-μ-loop raster n grey₀ to i₀ grey i = n - i
+mul-k : tie.Need-mul-k
+mul-k c = search needs
 
-loop-holds : tie.Need-loop-holds Inv-loop μ-loop
-loop-holds c = (omega arith, row-none _ _ _)
+mul-convert-rest : tie.Need-mul-convert-rest
+mul-convert-rest c = search needs
 
-mul-grey-of : tie.Need-mul-grey-of Inv-loop μ-loop
-mul-grey-of c = search needs
+sub-convert-rest : tie.Need-sub-convert-rest
+sub-convert-rest c = search needs
 
-shared-slice-read-grey-of : tie.Need-shared-slice-read-grey-of Inv-loop μ-loop
-shared-slice-read-grey-of c = search needs
+add-convert-rest : tie.Need-add-convert-rest
+add-convert-rest c = search needs
 
-mul-grey-of-2 : tie.Need-mul-grey-of-2 Inv-loop μ-loop
-mul-grey-of-2 c = search needs
+convert-rest-requires : tie.Need-convert-rest-requires
+convert-rest-requires c κs = search needs
 
-add-grey-of : tie.Need-add-grey-of Inv-loop μ-loop
-add-grey-of c = search needs
-
-shared-slice-read-grey-of-2 : tie.Need-shared-slice-read-grey-of-2 Inv-loop μ-loop
-shared-slice-read-grey-of-2 c = search needs
-
-mul-grey-of-3 : tie.Need-mul-grey-of-3 Inv-loop μ-loop
-mul-grey-of-3 c = search needs
-
-add-grey-of-2 : tie.Need-add-grey-of-2 Inv-loop μ-loop
-add-grey-of-2 c = search needs
-
-shared-slice-read-grey-of-3 : tie.Need-shared-slice-read-grey-of-3 Inv-loop μ-loop
-shared-slice-read-grey-of-3 c = search needs
-
-grey-of-requires : tie.Need-grey-of-requires Inv-loop μ-loop
-grey-of-requires c κs = search needs
-
-add-grey : tie.Need-add-grey Inv-loop μ-loop
-add-grey c = search needs
-
-slice-write-grey : tie.Need-slice-write-grey Inv-loop μ-loop
-slice-write-grey c = search needs
-
-add-i : tie.Need-add-i Inv-loop μ-loop
-add-i c = search needs
-
-loop-less : tie.Need-loop-less Inv-loop μ-loop
-loop-less c = search needs
-
-loop-again : tie.Need-loop-again Inv-loop μ-loop
-unfolding greyAt
-loop-again c =
-    let lp = c .before .before .before .before .before .loop in
-    (omega arith, row-more _ _ _ (lp .i) (lp .grey) (c .grey-of .result) (omega arith) (lp .inv .1) (c .grey-of .ensures))
-
-same-length : tie.Need-same-length Inv-loop μ-loop
+same-length : tie.Need-same-length
 same-length c = search needs
 
-returns : tie.Need-returns Inv-loop μ-loop
+returns : tie.Need-returns
 returns c =
-    let lp = c .before .loop in
-    let e : lp .i ≡ c .before .before .before .before .args .n = omega arith in
-    rw e at (lp .inv .1)
+    let rest = c .before .before in
+    let blocks = rest .before .before .before .before in
+    let a = blocks .before .before .before .before .args in
+    grey-rest
+    (a .raster .now)
+    (a .grey .now)
+    (blocks .convert-blocks .last .1 .1 .0)
+    (rest .convert-rest .last .1 .1 .1 .0)
+    (a .to)
+    (64 * (a .n / 64))
+    (a .n)
+    (omega arith)
+    (blocks .convert-blocks .ensures)
+    (rest .convert-rest .ensures)
 
 pub convert-spec : {M : Type 1} → statement M
 convert-spec =
     tie.close
     (tie.spec
-    Inv-loop
-    μ-loop
-    loop-holds
-    mul-grey-of
-    shared-slice-read-grey-of
-    mul-grey-of-2
-    add-grey-of
-    shared-slice-read-grey-of-2
-    mul-grey-of-3
-    add-grey-of-2
-    shared-slice-read-grey-of-3
-    grey-of-requires
-    add-grey
-    slice-write-grey
-    add-i
-    loop-less
-    loop-again
+    convert-blocks-requires
+    mul-k
+    mul-convert-rest
+    sub-convert-rest
+    add-convert-rest
+    convert-rest-requires
     same-length
     returns)
