@@ -4,7 +4,7 @@ use mathlib.Core.Bool.{Bool, true, false, _&&_, not}
 use mathlib.Core.Logic.{⊎-elim}
 use mathlib.Core.List.{List}
 use Prim.Native.Nat.{ℕ, zero, suc, _+_, _*_, _-_, _/_, _%_, _^_, _≤_, _<_, min, max}
-use native.Mathlib.Nat.{mod-lt, le-trans, lt-of-lt-of-le}
+use native.Mathlib.Nat.{add-zero, mod-lt, le-trans, lt-of-lt-of-le}
 use native.Mathlib.Omega.{arith}
 use lib.Dec.{ltb, leb, eqb}
 use lib.ListN.{length, getD}
@@ -21,7 +21,7 @@ use Rattle.rules.proofs.SumLaws.{order, gate-le, sum-ext, sum-zero, gate-zero}
 use Rattle.count.specs.declared.differences.Move.{Move}
 use Rattle.words.specs.Rows.{WordOf, rowBit, back, bias, biasWords, biasOf}
 use Rattle.words.proofs.BitLaws.{bit-lt, bit-and, bit-or, bit-xor, bit-shr, bit-above, bit-zero, bit-shl64-high, bit-shl64-low}
-use Rattle.words.proofs.MoveLaws.{gate-lt, gate-ge, row-bit, row-past, back-at, back-under, within-back}
+use Rattle.words.proofs.MoveLaws.{gate-lt, gate-ge, row-bit, row-past, back-at, back-under, within-back, moved-first}
 use Rattle.count.specs.Rows.{Adds, frameDiffer, disagree, movedBit, rowDiffer, lineDiffer, movedDiffer, Joined, Interior, Moves, RowsIn, FramesIn}
 use Rattle.count.proofs.RowLaws.{word-more, word-none, full-word, bitAt-in, bits-le, row-room}
 
@@ -216,6 +216,32 @@ interior-word words from w q r k j v l n e a i m = ⊎-elim below above (order i
         ∙ ap (λ (x : ℕ). bit (getD words x 0) (64 - r + i)) p
         ∙ full-word words from w (s - 1) (omega arith) (64 - r + i) (omega arith)
         ∙ sym (back-at (rowBit words from w) (q * 64 + r) ((s - 1) * 64 + (64 - r + i)) (2147483648 + (k * 64 + i)) (omega arith))
+
+-- a full row's first word, moved to the right, and last word, moved to the left, with no word beside it
+pub first-moved : (words : List ℕ) (from w q r k : ℕ) → q ≡ k + biasWords → 64 ≤ w
+    → WordOf (movedBit words from w (q * 64 + r)) k (getD words from 0 * 2 ^ r % 2 ^ 64)
+first-moved words from w q r k e l =
+    moved-word words from w (q * 64 + r) k (getD words from 0 * 2 ^ r % 2 ^ 64)
+    (moved-first (rowBit words from w) (k + biasWords) q r (getD words from 0) e
+    (λ i m. ap (λ (b : ℕ). bit (getD words b 0) i) (sym (add-zero from)) ∙ full-word words from w 0 (omega arith) i m))
+
+pub last-moved : (words : List ℕ) (from w q r k : ℕ) → q + 1 ≡ biasWords → (k + 1) * 64 ≡ w → r < 64 → getD words (from + k) 0 < 2 ^ 64
+    → WordOf (movedBit words from w (q * 64 + r)) k (getD words (from + k) 0 / 2 ^ 1 / 2 ^ (63 - r))
+unfolding movedBit
+last-moved words from w q r k e f l b i m =
+    bit-shr (u / 2 ^ 1) (63 - r) i ∙ bit-shr u 1 (63 - r + i) ∙ ⊎-elim below above (order i r)
+    ∙ sym (back-at (rowBit words from w) (q * 64 + r) (k * 64 + (1 + (63 - r + i))) (2147483648 + (k * 64 + i)) (omega arith))
+  where
+    u : ℕ
+    u = getD words (from + k) 0
+
+    below : i < r → bit u (1 + (63 - r + i)) ≡ rowBit words from w (k * 64 + (1 + (63 - r + i)))
+    below g = full-word words from w k (omega arith) (1 + (63 - r + i)) (omega arith)
+
+    above : r ≤ i → bit u (1 + (63 - r + i)) ≡ rowBit words from w (k * 64 + (1 + (63 - r + i)))
+    above g =
+        bit-above u 64 (1 + (63 - r + i)) b (omega arith)
+        ∙ sym (row-past words from w (k * 64 + (1 + (63 - r + i))) (omega arith))
 
 -- ---- rows and frames
 

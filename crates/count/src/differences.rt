@@ -13,6 +13,7 @@ ghost use Rattle.rules.specs.Limits.{maxSide, wordBits};
 ghost use Rattle.rules.specs.Sums.{sum};
 ghost use Rattle.rules.specs.Differences.{difference};
 ghost use Rattle.rules.specs.Calls.{planesOf};
+ghost use Rattle.words.specs.Rows.{biasWords};
 ghost use Rattle.count.specs.Ones.{CountsOnes};
 ghost use Rattle.count.specs.Rows.{Adds, movedDiffer, lineDiffer, Moves, RowsIn, FramesIn, Joined};
 
@@ -134,6 +135,53 @@ fn careful_word(
     )
 }
 
+// The row's first word moved by less than a word to the right: it is full, and no word stands before it.
+fn first_word(
+    t1: &[u64],
+    e1: &[u64],
+    t2: &[u64],
+    e2: &[u64],
+    base: usize,
+    from: usize,
+    m: Move,
+    k: usize,
+    ones: &[u8; 256],
+) -> u32
+    requires moves { ⌜ Moves m ⌝ }
+    requires here { ⌜ (m .q ≡ k + biasWords) × ((k + 1) * wordBits ≤ m .w) ⌝ }
+    requires rows { ⌜ RowsIn (now t1) (now e1) (now t2) (now e2) base from (m .w) ⌝ }
+    requires table { ⌜ CountsOnes (now ones) ⌝ }
+    ensures { λ r. ⌜ Adds (movedDiffer (now (t1 .entry)) (now (e1 .entry)) (now (t2 .entry)) (now (e2 .entry)) base from m) k (k + 1) r ⌝ }
+{
+    let i = base + k;
+    let kept = e1[i] & (e2[from] << m.r);
+    word_ones((t1[i] ^ (t2[from] << m.r)) & kept, ones)
+}
+
+// The row's last word, if full, moved by at most a word to the left: no word stands after it.
+fn last_word(
+    t1: &[u64],
+    e1: &[u64],
+    t2: &[u64],
+    e2: &[u64],
+    base: usize,
+    from: usize,
+    m: Move,
+    k: usize,
+    ones: &[u8; 256],
+) -> u32
+    requires moves { ⌜ Moves m ⌝ }
+    requires here { ⌜ (m .q + 1 ≡ biasWords) × ((k + 1) * wordBits ≡ m .w) ⌝ }
+    requires rows { ⌜ RowsIn (now t1) (now e1) (now t2) (now e2) base from (m .w) ⌝ }
+    requires table { ⌜ CountsOnes (now ones) ⌝ }
+    ensures { λ r. ⌜ Adds (movedDiffer (now (t1 .entry)) (now (e1 .entry)) (now (t2 .entry)) (now (e2 .entry)) base from m) k (k + 1) r ⌝ }
+{
+    let i = base + k;
+    let j = from + k;
+    let kept = e1[i] & ((e2[j] >> 1) >> (63 - m.r));
+    word_ones((t1[i] ^ ((t2[j] >> 1) >> (63 - m.r))) & kept, ones)
+}
+
 // A row's interior words.
 fn interior(
     t1: &[u64],
@@ -188,6 +236,56 @@ fn careful(
     count
 }
 
+// The words before the interior: for small moves none, told by one test and no call, or the first alone.
+fn left_edge(
+    t1: &[u64],
+    e1: &[u64],
+    t2: &[u64],
+    e2: &[u64],
+    base: usize,
+    from: usize,
+    m: Move,
+    ones: &[u8; 256],
+) -> u32
+    requires moves { ⌜ Moves m ⌝ }
+    requires rows { ⌜ RowsIn (now t1) (now e1) (now t2) (now e2) base from (m .w) ⌝ }
+    requires table { ⌜ CountsOnes (now ones) ⌝ }
+    ensures { λ r. ⌜ Adds (movedDiffer (now (t1 .entry)) (now (e1 .entry)) (now (t2 .entry)) (now (e2 .entry)) base from m) 0 (m .first) r ⌝ }
+{
+    if m.first == 0 {
+        return 0;
+    }
+    if m.first == 1 && m.q == BIAS_WORDS && WORD_BITS <= m.w {
+        return first_word(t1, e1, t2, e2, base, from, m, 0, ones);
+    }
+    careful(t1, e1, t2, e2, base, from, m, 0, m.first, ones)
+}
+
+// The words after the interior, likewise.
+fn right_edge(
+    t1: &[u64],
+    e1: &[u64],
+    t2: &[u64],
+    e2: &[u64],
+    base: usize,
+    from: usize,
+    m: Move,
+    ones: &[u8; 256],
+) -> u32
+    requires moves { ⌜ Moves m ⌝ }
+    requires rows { ⌜ RowsIn (now t1) (now e1) (now t2) (now e2) base from (m .w) ⌝ }
+    requires table { ⌜ CountsOnes (now ones) ⌝ }
+    ensures { λ r. ⌜ Adds (movedDiffer (now (t1 .entry)) (now (e1 .entry)) (now (t2 .entry)) (now (e2 .entry)) base from m) (m .end) (m .n) r ⌝ }
+{
+    if m.end == m.n {
+        return 0;
+    }
+    if m.end + 1 == m.n && m.q == BIAS_WORDS - 1 && m.n * WORD_BITS == m.w {
+        return last_word(t1, e1, t2, e2, base, from, m, m.end, ones);
+    }
+    careful(t1, e1, t2, e2, base, from, m, m.end, m.n, ones)
+}
+
 // The row at `base` against the moved row at `from`.
 fn row_difference(
     t1: &[u64],
@@ -204,9 +302,9 @@ fn row_difference(
     requires table { ⌜ CountsOnes (now ones) ⌝ }
     ensures { λ r. ⌜ r ≡ sum (m .w) (movedDiffer (now (t1 .entry)) (now (e1 .entry)) (now (t2 .entry)) (now (e2 .entry)) base from m) ⌝ }
 {
-    careful(t1, e1, t2, e2, base, from, m, 0, m.first, ones)
+    left_edge(t1, e1, t2, e2, base, from, m, ones)
         + interior(t1, e1, t2, e2, base, from, m, ones)
-        + careful(t1, e1, t2, e2, base, from, m, m.end, m.n, ones)
+        + right_edge(t1, e1, t2, e2, base, from, m, ones)
 }
 
 // Row y of the frame. Its partner row is `up` rows back, counted from the bias; a row whose partner

@@ -1,0 +1,74 @@
+-- The four words as they stand are the rows' pixels, since all are full; no pixel lies before the moved row.
+use Prim.Native.Nat.{_+_, _*_, _%_, _^_}
+use native.Mathlib.Omega.{arith}
+use lib.ListN.{getD}
+use borrow.Author.Needs.{needs}
+use Rattle.count.proofs.RowLaws.{full-word}
+use Rattle.count.proofs.DifferLaws.{full-le, differ-adds, first-moved}
+use Rattle.count.proofs.differences.first_word.Statement.{statement}
+use Rattle.count.proofs.differences.first_word.Tie as tie
+
+add-i : tie.Need-add-i
+add-i c = search needs
+
+mul-kept : tie.Need-mul-kept
+mul-kept c = search needs
+
+shared-slice-read-kept : tie.Need-shared-slice-read-kept
+shared-slice-read-kept c = omega (arith, full-le (c .before .before .before .before .before .args .m .w))
+
+mul-kept-2 : tie.Need-mul-kept-2
+mul-kept-2 c = search needs
+
+shared-slice-read-kept-2 : tie.Need-shared-slice-read-kept-2
+shared-slice-read-kept-2 c = omega (arith, full-le (c .before .before .before .before .before .before .args .m .w))
+
+shl-kept : tie.Need-shl-kept
+shl-kept c = search needs
+
+mul-word-ones : tie.Need-mul-word-ones
+mul-word-ones c = search needs
+
+shared-slice-read-word-ones : tie.Need-shared-slice-read-word-ones
+shared-slice-read-word-ones c = omega (arith, full-le (c .before .before .before .before .before .before .before .args .m .w))
+
+mul-word-ones-2 : tie.Need-mul-word-ones-2
+mul-word-ones-2 c = search needs
+
+shared-slice-read-word-ones-2 : tie.Need-shared-slice-read-word-ones-2
+shared-slice-read-word-ones-2 c = omega (arith, full-le (c .before .before .before .before .before .before .before .before .args .m .w))
+
+shl-word-ones : tie.Need-shl-word-ones
+shl-word-ones c = search needs
+
+word-ones-requires : tie.Need-word-ones-requires
+word-ones-requires c κs = search needs
+
+returns : tie.Need-returns
+returns c =
+    let s = c .before .before .before .before .before .before .before .before .before in
+    let a = s .args in
+    differ-adds (a .t1 .now) (a .e1 .now) (a .t2 .now) (a .e2 .now) (a .base) (a .from) (a .m .w) (a .m .q * 64 + a .m .r) (a .k) (getD (a .e1 .now) (a .base + a .k) 0) (getD (a .e2 .now) (a .from) 0 * 2 ^ a .m .r % 2 ^ 64)
+    (full-word (a .e1 .now) (a .base) (a .m .w) (a .k) (s .pre .1 .0 .1))
+    (first-moved (a .e2 .now) (a .from) (a .m .w) (a .m .q) (a .m .r) (a .k) (s .pre .1 .0 .0) (omega (arith, s .pre .1 .0 .1)))
+    (getD (a .t2 .now) (a .from) 0 * 2 ^ a .m .r % 2 ^ 64) (c .word-ones .result)
+    (first-moved (a .t2 .now) (a .from) (a .m .w) (a .m .q) (a .m .r) (a .k) (s .pre .1 .0 .0) (omega (arith, s .pre .1 .0 .1)))
+    (c .word-ones .ensures)
+
+pub first-word-spec : {M : Type 1} → statement M
+first-word-spec =
+    tie.close
+    (tie.spec
+    add-i
+    mul-kept
+    shared-slice-read-kept
+    mul-kept-2
+    shared-slice-read-kept-2
+    shl-kept
+    mul-word-ones
+    shared-slice-read-word-ones
+    mul-word-ones-2
+    shared-slice-read-word-ones-2
+    shl-word-ones
+    word-ones-requires
+    returns)
