@@ -149,6 +149,7 @@ fn series_number(data: &[u8], at: usize, source: &[u8], grey: &mut [u8], words: 
     series_answer(answer, data, at, offsets, counts)
 }
 
+// A pair's call number is even, a series' odd.
 fn align_number(data: &[u8], at: usize, source: &[u8], grey: &mut [u8], words: &mut [u64]) -> u32 {
     if field(data, at, CALL) % 2 == 0 {
         return pair_number(data, at, source, grey, words);

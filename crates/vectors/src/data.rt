@@ -34,6 +34,8 @@ pub const INPUT2: usize = 13;
 
 pub const INPUT3: usize = 15;
 
+pub const INPUT4: usize = 17;
+
 pub const OUTPUT1: usize = 19;
 
 pub const OUTPUT2: usize = 21;

@@ -46,7 +46,7 @@ pub fn both(a: Tally, b: Tally) -> Tally {
     }
 }
 
-// Whether the library agrees with the record at a place.
+// Whether the library agrees with the record at a place. Calls have the numbers of tests/FORMAT.md.
 fn run_record(
     data: &[u8],
     at: usize,

@@ -9,6 +9,7 @@ use crate::data::HEIGHT;
 use crate::data::INPUT1;
 use crate::data::INPUT2;
 use crate::data::INPUT3;
+use crate::data::INPUT4;
 use crate::data::MOVE_X;
 use crate::data::MOVE_Y;
 use crate::data::PERCENTILE;
@@ -33,8 +34,6 @@ use blink::Row;
 pub const MOST_WORDS: usize = 128;
 
 const MOST_OFFSETS: usize = 64;
-
-const INPUT4: usize = 17;
 
 // The first n words; where there are fewer, none.
 pub fn first_words(words: &[u64], n: usize) -> &[u64] {
@@ -192,6 +191,7 @@ fn blink_number(data: &[u8], at: usize) -> u32 {
     )
 }
 
+// The number of such a call; calls have the numbers of tests/FORMAT.md.
 fn read_number(data: &[u8], at: usize) -> u32 {
     match field(data, at, CALL) {
         3 => threshold_number(data, at),

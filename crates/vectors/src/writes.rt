@@ -49,6 +49,7 @@ fn halve_number(data: &[u8], at: usize, grey: &[u8], out: &mut [u8]) -> u32 {
     answers::written(answer)
 }
 
+// Grey, halving, P6 writer or moved frame.
 fn byte_number(data: &[u8], at: usize, out: &mut [u8]) -> u32 {
     let bytes = input(data, at, INPUT1);
     match field(data, at, CALL) {
@@ -119,6 +120,7 @@ fn shift_number(data: &[u8], at: usize, out: &mut [u64]) -> u32 {
     )
 }
 
+// Bitmaps or shift.
 fn word_number(data: &[u8], at: usize, out: &mut [u64]) -> u32 {
     if field(data, at, CALL) == 4 {
         return bitmaps_number(data, at, out);
