@@ -185,7 +185,7 @@ void paint_blobs(Canvas &canvas)
 void paint_mosaic(Canvas &canvas)
 {
     std::vector<uint8_t> raster(3 * canvas.light.size());
-    make_frames({ random_below(1000), canvas.w, canvas.h, 0, 0 }, raster.size(), raster.data());
+    make_frames({ random_below(1000), canvas.w, canvas.h }, raster.size(), raster.data());
     for (size_t i = 0; i < canvas.light.size(); i++)
         canvas.light[i] = raster[3 * i];
 }
