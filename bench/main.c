@@ -179,16 +179,36 @@ static void keep_memory(void)
         fail("mallopt");
 }
 
-/* A line each contestant: the job, the name, median and least time, turns, the last frame's offset, the true one. */
+static int ascending_ratios(const void *a, const void *b)
+{
+    double x = *(const double *)a, y = *(const double *)b;
+    return (x > y) - (x < y);
+}
+
+/* How many times the time of the first contestant, the library, another one took: the median over the turns. Both ran within one turn, so that a host
+ * that is slower for a second is slower for both. */
+static double median_ratio(const uint64_t *times, const uint64_t *library, uint32_t turns)
+{
+    double ratios[MAX_TURNS];
+    for (uint32_t k = 0; k < turns; k++)
+        ratios[k] = (double)times[k] / (double)library[k];
+    qsort(ratios, turns, sizeof ratios[0], ascending_ratios);
+    return ratios[turns / 2];
+}
+
+/* A line each contestant: the job, the name, median and least time, turns, the last frame's offset, the true one, and
+ * how many times the library's time it took. */
 static void print_line(const char *kind, const struct job *j, enum content content, const struct contestant *c,
-                       uint64_t *times, uint32_t turns, const struct answer *a)
+                       const uint64_t *times, const uint64_t *library, uint32_t turns, const struct answer *a)
 {
     struct slide first = scene_slide(0), last = scene_slide(j->n - 1);
-    qsort(times, turns, sizeof times[0], ascending);
+    uint64_t sorted[MAX_TURNS];
+    memcpy(sorted, times, turns * sizeof times[0]);
+    qsort(sorted, turns, sizeof sorted[0], ascending);
     printf("%s\t%s\t%u\t%u\t%u\t%u\t%s\t", kind, content == SCENE ? "scene" : "noise", j->w, j->h, j->n, j->s, c->name);
-    printf("%llu\t%llu\t%u\t", (unsigned long long)times[turns / 2], (unsigned long long)times[0], turns);
+    printf("%llu\t%llu\t%u\t", (unsigned long long)sorted[turns / 2], (unsigned long long)sorted[0], turns);
     printf("%d\t%d\t", a->offsets[2 * j->n - 2], a->offsets[2 * j->n - 1]);
-    printf("%d\t%d\n", first.x - last.x, first.y - last.y);
+    printf("%d\t%d\t%.4f\n", first.x - last.x, first.y - last.y, median_ratio(times, library, turns));
     fflush(stdout);
 }
 
@@ -233,7 +253,7 @@ static void time_job(const char *kind, struct job j, enum content content)
     for (uint32_t turn = 0; turn < turns; turn++)
         take_turn(&j, &m, answers, times, turn, &state);
     for (size_t c = 0; c < contestants_len; c++)
-        print_line(kind, &j, content, &contestants[c], times[c], turns, &answers[c]);
+        print_line(kind, &j, content, &contestants[c], times[c], times[0], turns, &answers[c]);
     free(rasters);
     give_back(&m);
 }

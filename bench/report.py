@@ -23,12 +23,13 @@ STEPS = (
     ("halving", r"halv"),
     ("histogram and threshold", r"threshold_of|histogram|percentile_of|count_fours|bitmaps_within"),
     ("bitmaps", r"pack"),
-    ("difference counts", r"count_at|ones|settle|nine_counts|difference|moved_word"),
+    ("difference counts", r"count_at|ones|settle|counts|column|difference|overlap|slid|moved_word"),
     ("other", r""),
 )
 
 Job = namedtuple("Job", "content w h n s")
-Time = namedtuple("Time", "median least turns offset true")  # milliseconds; the last frame's offset, found and true
+# milliseconds; the last frame's offset, found and true; how many times the library's time, the median over the turns
+Time = namedtuple("Time", "median least turns offset true to_library")
 
 
 class Results:
@@ -55,10 +56,9 @@ class Results:
             offset, true = (int(words[10]), int(words[11])), (int(words[12]), int(words[13]))
             table = self.times if kind == "time" else self.default
             job = Job(words[1], w, h, n, s)
-            table.setdefault(job, {})[words[6]] = Time(median, least, int(words[9]), offset, true)
+            table.setdefault(job, {})[words[6]] = Time(median, least, int(words[9]), offset, true, float(words[14]))
 
     def ratio(self, job, a, b):
-        """How many times b's median time a takes; None where one was not timed."""
         return ratio(self.times[job], a, b)
 
     def scenes(self):
@@ -74,7 +74,8 @@ class Results:
 
 
 def ratio(times, a, b):
-    return times[a].median / times[b].median if a in times and b in times else None
+    """How many times b's time a takes, by the turns' ratios to the library; None where one was not timed."""
+    return times[a].to_library / times[b].to_library if a in times and b in times else None
 
 
 def pixels(job):
@@ -162,8 +163,8 @@ def series_table(results):
 
 def s_table(results):
     jobs = results.by_s()
-    rows = [[name, *(milliseconds(results.times[j][name].median) for j in jobs)] for name in (LIBRARY, CAREFUL)]
-    return table(["1920×1080, ms", *(f"s = {j.s}" for j in jobs)], rows)
+    rows = [[name, *(milliseconds(results.times[j][name].least) for j in jobs)] for name in (LIBRARY, CAREFUL)]
+    return table(["1920×1080, fastest turn, ms", *(f"s = {j.s}" for j in jobs)], rows)
 
 
 def instruction_table(results):
@@ -227,14 +228,14 @@ def goal_memcpy(results, large):
 
 def goal_linear(results):
     jobs = results.pairs()
-    fit = {name: exponent([(pixels(j), results.times[j][name].median) for j in jobs]) for name in (LIBRARY, MEMCPY)}
+    fit = {name: exponent([(pixels(j), results.times[j][name].least) for j in jobs]) for name in (LIBRARY, MEMCPY)}
     text = f"time ~ pixels^{fit[LIBRARY]:.2f} from 640×480 to 4096×4096 (memcpy: pixels^{fit[MEMCPY]:.2f})"
     met = "met" if abs(fit[LIBRARY] - 1) <= 0.1 else "missed"
     return Goal("time linear in pixels (exponent within 0.1 of 1)", text, met)
 
 
 def goal_s(results):
-    t = {j.s: results.times[j][LIBRARY].median for j in results.by_s()}
+    t = {j.s: results.times[j][LIBRARY].least for j in results.by_s()}
     text = f"s = 8 takes {t[8] / t[0]:.2f} times s = 0, and {t[8] / t[2]:.2f} times s = 2"
     met = "met" if t[8] / t[0] <= 4 / 3 else "missed"
     return Goal("nearly independent of s (at most 4/3, the sum of the levels' pixels)", text, met)
@@ -304,8 +305,8 @@ def document(results):
 def picture(results):
     """Two panels: time against pixels, and time against s."""
     names = [name for name in NAMES if all(name in results.times[j] for j in results.pairs())]
-    against_pixels = {name: [(pixels(j) / 1e6, results.times[j][name].median) for j in results.pairs()] for name in names}
-    against_s = {name: [(j.s, results.times[j][name].median) for j in results.by_s()] for name in names}
+    against_pixels = {name: [(pixels(j) / 1e6, results.times[j][name].least) for j in results.pairs()] for name in names}
+    against_s = {name: [(j.s, results.times[j][name].least) for j in results.by_s()] for name in names}
     return plot.picture(against_pixels, against_s)
 
 
