@@ -1,13 +1,13 @@
 -- Laws of flags and of the words that they make.
-use mathlib.Core.Path.{_≡_, refl, sym, ap, _∙_}
+use mathlib.Core.Path.{_≡_, refl, sym, ap, ap₂, _∙_}
 use mathlib.Core.Bool.{Bool, true, false, _||_}
 use mathlib.Core.Logic.{⊎-elim}
 use mathlib.Core.List.{List}
-use Prim.Native.Nat.{ℕ, _+_, _*_, _-_, _/_, _≤_, _<_, min, max}
-use native.Mathlib.Nat.{add-assoc}
+use Prim.Native.Nat.{ℕ, _+_, _*_, _-_, _/_, _^_, _≤_, _<_, min, max}
+use native.Mathlib.Nat.{add-assoc, zero-mul, one-mul}
 use native.Mathlib.Omega.{arith}
 use lib.Dec.{ltb}
-use lib.ListN.{length, getD, set}
+use lib.ListN.{length, getD, set, replicate, getD-replicate}
 use lib.Seq.{getD-set-same, getD-set-other}
 use borrow.Author.Tests.{lt-ltb, le-ltb}
 use Rattle.rules.specs.Sums.{gate, oneIf}
@@ -19,6 +19,7 @@ use Rattle.rules.proofs.FrameLaws.{RowAt, row-more, FrameAt, frame-more, frame-
 use Rattle.words.proofs.BitLaws.{word-ext}
 use Rattle.pack.proofs.CaseLaws.{compared}
 use Rattle.pack.specs.Outside.{outsideBit, outsidePlane, flagAt, outsideWord}
+use Rattle.pack.specs.Gathers.{Weighed}
 
 -- "Threshold bit: 1 where grey > t."
 pub threshold-outside : (t v : ℕ) → thresholdBit t v ≡ outsideBit 0 t v
@@ -82,29 +83,41 @@ pub flag-past : (lo hi : ℕ) (grey : List ℕ) (at n i : ℕ) → n ≤ i → f
 unfolding flagAt
 flag-past lo hi grey at n i l = ap (λ t. gate t (outsideBit lo hi (getD grey (at + i) 0))) (le-ltb i n l)
 
+-- no flag yet
+pub flags-none : (lo hi : ℕ) (grey : List ℕ) (at : ℕ) → Weighed (flagAt lo hi grey at 0) (replicate 64 0)
+flags-none lo hi grey at = record {
+  flag = λ i l. flag-lt lo hi grey at 0 i;
+  held = λ i l. getD-replicate 64 i 0 0 l ∙ sym (ap (λ (v : ℕ). v * 2 ^ (i / 8)) (flag-past lo hi grey at 0 i (omega arith)) ∙ zero-mul (2 ^ (i / 8)));
+}
+
 -- one flag more
-pub flags-more : (lo hi : ℕ) (grey : List ℕ) (at i : ℕ) (flags : List ℕ) (v : ℕ) → i < length flags
-    → ((k : ℕ) → k < 64 → getD flags k 0 ≡ flagAt lo hi grey at i k) → v ≡ outsideBit lo hi (getD grey (at + i) 0)
-    → (k : ℕ) → k < 64 → getD (set flags i v) k 0 ≡ flagAt lo hi grey at (i + 1) k
-flags-more lo hi grey at i flags v room e d k l = compared k i below here above
+pub flags-more : (lo hi : ℕ) (grey : List ℕ) (at i : ℕ) (flags : List ℕ) (v weight : ℕ) → i < length flags → weight ≡ 1 * 2 ^ (i / 8)
+    → v ≡ outsideBit lo hi (getD grey (at + i) 0) * weight
+    → Weighed (flagAt lo hi grey at i) flags → Weighed (flagAt lo hi grey at (i + 1)) (set flags i v)
+flags-more lo hi grey at i flags v weight room e d w = record {
+  flag = λ k l. flag-lt lo hi grey at (i + 1) k;
+  held = λ k l. compared k i (other k l) (here k) (past k l);
+}
   where
-    below : k < i → getD (set flags i v) k 0 ≡ flagAt lo hi grey at (i + 1) k
-    below m =
+    other : (k : ℕ) → k < 64 → k < i → getD (set flags i v) k 0 ≡ flagAt lo hi grey at (i + 1) k * 2 ^ (k / 8)
+    other k l m =
         getD-set-other flags i k v 0 (λ f. omega arith)
-        ∙ e k l ∙ flag-in lo hi grey at i k m ∙ sym (flag-in lo hi grey at (i + 1) k (omega arith))
+        ∙ w .held k l
+        ∙ ap (λ (u : ℕ). u * 2 ^ (k / 8)) (flag-in lo hi grey at i k m ∙ sym (flag-in lo hi grey at (i + 1) k (omega arith)))
 
-    above : i < k → getD (set flags i v) k 0 ≡ flagAt lo hi grey at (i + 1) k
-    above m =
+    past : (k : ℕ) → k < 64 → i < k → getD (set flags i v) k 0 ≡ flagAt lo hi grey at (i + 1) k * 2 ^ (k / 8)
+    past k l m =
         getD-set-other flags i k v 0 (λ f. omega arith)
-        ∙ e k l ∙ flag-past lo hi grey at i k (omega arith) ∙ sym (flag-past lo hi grey at (i + 1) k (omega arith))
+        ∙ w .held k l
+        ∙ ap (λ (u : ℕ). u * 2 ^ (k / 8)) (flag-past lo hi grey at i k (omega arith) ∙ sym (flag-past lo hi grey at (i + 1) k (omega arith)))
 
-    here : k ≡ i → getD (set flags i v) k 0 ≡ flagAt lo hi grey at (i + 1) k
-    here f =
+    here : (k : ℕ) → k ≡ i → getD (set flags i v) k 0 ≡ flagAt lo hi grey at (i + 1) k * 2 ^ (k / 8)
+    here k f =
         ap (λ (j : ℕ). getD (set flags i v) j 0) f
         ∙ getD-set-same flags i v 0 room
         ∙ d
-        ∙ ap (λ (j : ℕ). outsideBit lo hi (getD grey (at + j) 0)) (sym f)
-        ∙ sym (flag-in lo hi grey at (i + 1) k (omega arith))
+        ∙ ap₂ (λ (u c : ℕ). u * c) (sym (flag-in lo hi grey at (i + 1) i (omega arith))) (e ∙ one-mul (2 ^ (i / 8)))
+        ∙ ap (λ (j : ℕ). flagAt lo hi grey at (i + 1) j * 2 ^ (j / 8)) (sym f)
 
 -- the words of a row, as a sum that omega reads
 pub row-words : (w : ℕ) → rowWords w ≡ (w + 63) / 64

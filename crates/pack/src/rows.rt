@@ -1,6 +1,8 @@
 // Rows of pixels packed into words, one bit a pixel: 1 where its grey value lies outside lo..hi.
 
-use crate::gather::gather_word;
+use crate::gather::gather_columns;
+use crate::gather::turn;
+use crate::outside::WEIGHTS;
 use crate::outside::flags_of;
 ghost use mathlib.Core.Path.{_≡_};
 ghost use Prim.Native.Nat.{_+_, _*_, _≤_};
@@ -8,14 +10,15 @@ ghost use lib.ListN.{length};
 ghost use Rattle.rules.specs.Bitmaps.{rowWords, word};
 ghost use Rattle.rules.proofs.FrameLaws.{RowAt};
 ghost use Rattle.pack.specs.Outside.{flagAt, outsideWord};
+ghost use Rattle.pack.specs.Gathers.{Weighed};
 
 // The word of the n pixels from place `at` on.
-fn pack_word(grey: &[u8], at: usize, n: usize, lo: u8, hi: u8) -> u64
-    requires { ⌜ (n ≤ 64) × (at + n ≤ length (now grey)) ⌝ }
+fn pack_word(grey: &[u8], at: usize, n: usize, lo: u8, hi: u8, weights: &[u8; 64]) -> u64
+    requires { ⌜ (n ≤ 64) × (at + n ≤ length (now grey)) × Weighed (λ i. 1) (now weights) ⌝ }
     ensures { λ r. ⌜ r ≡ word (flagAt lo hi (now (grey .entry)) at n) ⌝ }
 {
-    let flags = flags_of(grey, at, n, lo, hi);
-    gather_word(&flags)
+    let flags = flags_of(grey, at, n, lo, hi, weights);
+    turn(gather_columns(&flags))
 }
 
 // The words of a row of w pixels that begins at place `from`, written from place `to` on.
@@ -23,14 +26,15 @@ pub fn pack_row(grey: &[u8], from: usize, w: usize, lo: u8, hi: u8, out: &mut [u
     requires { ⌜ (from + w ≤ length (now grey)) × (to + rowWords w ≤ length (now out)) ⌝ }
     ensures { λ _. ⌜ RowAt to (outsideWord lo hi (now (grey .entry)) from w) (now (out .entry)) (rowWords w) (now (out .exit)) ⌝ }
 {
+    let weights = WEIGHTS;
     let full = w / 64;
     let rest = w % 64;
     let mut k: usize = 0;
     while k < full {
-        out[to + k] = pack_word(grey, from + k * 64, 64, lo, hi);
+        out[to + k] = pack_word(grey, from + k * 64, 64, lo, hi, &weights);
         k += 1;
     }
     if rest > 0 {
-        out[to + full] = pack_word(grey, from + full * 64, rest, lo, hi);
+        out[to + full] = pack_word(grey, from + full * 64, rest, lo, hi, &weights);
     }
 }

@@ -5,17 +5,18 @@ use Rattle.rules.specs.Bitmaps.{rowWords}
 use Rattle.rules.proofs.FrameLaws.{RowAt, row-none}
 use Rattle.pack.specs.Outside.{outsideWord}
 use Rattle.pack.proofs.OutsideLaws.{row-words, row-word}
+use Rattle.pack.proofs.GatherLaws.{weights-held}
 use native.Mathlib.Omega.{arith}
 use borrow.Author.Needs.{needs}
 use Rattle.pack.proofs.rows.pack_row.Statement.{statement}
 use Rattle.pack.proofs.rows.pack_row.Tie as tie
 
 abbrev Inv-loop : tie.InvT-loop
-Inv-loop grey from w lo hi out₀ to full rest k₀ out k =
+Inv-loop grey from w lo hi out₀ to weights full rest k₀ out k =
     (k ≤ full) × (rowWords w ≡ (w + 63) / 64) × RowAt to (outsideWord lo hi grey from w) out₀ k out
 
 abbrev μ-loop : tie.MeasureT-loop
-μ-loop grey from w lo hi out₀ to full rest k₀ out k = full - k
+μ-loop grey from w lo hi out₀ to weights full rest k₀ out k = full - k
 
 loop-holds : tie.Need-loop-holds Inv-loop μ-loop
 loop-holds c =
@@ -29,7 +30,7 @@ add-pack-word : tie.Need-add-pack-word Inv-loop μ-loop
 add-pack-word c = search needs
 
 pack-word-requires : tie.Need-pack-word-requires Inv-loop μ-loop
-pack-word-requires c κs = search needs
+pack-word-requires c κs = (omega arith, omega arith, weights-held)
 
 add-out : tie.Need-add-out Inv-loop μ-loop
 add-out c = search needs
@@ -48,8 +49,8 @@ loop-less c = search needs
 
 loop-again : tie.Need-loop-again Inv-loop μ-loop
 loop-again c =
-    let a = c .before .before .before .before .before .args in
-    let L = c .before .before .loop in (
+    let a = c .before .before .before .before .before .before .args in
+    let L = c .before .before .before .loop in (
       omega arith,
       L .inv .1,
       row-word (a .lo) (a .hi) (a .grey .now) (a .from) (a .w) (a .to) (L .k) 64 (a .out .now) (L .out) (c .pack-word .result) (omega arith) (omega arith)
@@ -63,7 +64,7 @@ add-pack-word-2 : tie.Need-add-pack-word-2 Inv-loop μ-loop
 add-pack-word-2 c = search needs
 
 pack-word-requires-2 : tie.Need-pack-word-requires-2 Inv-loop μ-loop
-pack-word-requires-2 c κs = search needs
+pack-word-requires-2 c κs = (omega arith, omega arith, weights-held)
 
 add-out-2 : tie.Need-add-out-2 Inv-loop μ-loop
 add-out-2 c = search needs
@@ -79,8 +80,8 @@ same-length c = search needs
 
 returns : tie.Need-returns Inv-loop μ-loop
 returns c =
-    let a = c .before .before .before .before .before .before .args in
-    let L = c .before .before .before .loop in
+    let a = c .before .before .before .before .before .before .before .args in
+    let L = c .before .before .before .before .loop in
     let full : L .k ≡ a .w / 64 = omega arith in
     let more : a .w / 64 + 1 ≡ rowWords (a .w) = omega arith in
     let r : RowAt (a .to) (outsideWord (a .lo) (a .hi) (a .grey .now) (a .from) (a .w)) (a .out .now) (a .w / 64) (L .out) = rw full at (L .inv .2) in
