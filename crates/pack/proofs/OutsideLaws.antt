@@ -3,7 +3,7 @@ use mathlib.Core.Path.{_≡_, refl, sym, ap, ap₂, _∙_}
 use mathlib.Core.Bool.{Bool, true, false, _||_}
 use mathlib.Core.Logic.{⊎-elim}
 use mathlib.Core.List.{List}
-use Prim.Native.Nat.{ℕ, _+_, _*_, _-_, _/_, _^_, _≤_, _<_, min, max}
+use Prim.Native.Nat.{ℕ, _+_, _*_, _-_, _/_, _%_, _^_, _≤_, _<_, min, max}
 use native.Mathlib.Nat.{add-assoc, zero-mul, one-mul}
 use native.Mathlib.Omega.{arith}
 use lib.Dec.{ltb}
@@ -62,6 +62,16 @@ pub exclusion-plane : (t tolerance w : ℕ) (grey : List ℕ) → ((i : ℕ) →
 unfolding outsidePlane frameOf
 exclusion-plane t tolerance w grey bytes =
     λ i x y. exclusion-outside t tolerance (frameOf w grey x y) (let b = bytes (y * w + x) in omega arith) i
+
+-- Counted on from lo, round at 256, the values of lo..hi come first: one test tells where v lies.
+pub outside-past : (lo hi v : ℕ) → lo ≤ hi → hi < 256 → v < 256 → hi - lo < (v + (256 - lo)) % 256 → outsideBit lo hi v ≡ 1
+unfolding outsideBit
+outside-past lo hi v k l b p =
+    ⊎-elim (λ (m : v < lo). simp (lt-ltb v lo m)) (λ (m : lo ≤ v). simp (le-ltb v lo m, lt-ltb hi v (omega arith))) (order v lo)
+
+pub outside-first : (lo hi v : ℕ) → lo ≤ hi → hi < 256 → v < 256 → (v + (256 - lo)) % 256 ≤ hi - lo → outsideBit lo hi v ≡ 0
+unfolding outsideBit
+outside-first lo hi v k l b p = simp (le-ltb v lo (omega arith), le-ltb hi v (omega arith))
 
 one-if-lt : (t : Bool) → oneIf t < 2
 one-if-lt true = omega arith

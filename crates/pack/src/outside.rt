@@ -75,14 +75,14 @@ pub const WEIGHTS: [u8; 64] = [
     128,
 ];
 
-// The weight where a grey value lies outside lo..hi, both included, else 0.
+// The weight where a grey value lies outside lo..hi, both included, else 0. One test for both ends:
+// counted on from lo, round at 256, the values of the interval come first.
 fn outside_weight(g: u8, lo: u8, hi: u8, weight: u8) -> u8
+    requires { ⌜ lo ≤ hi ⌝ }
     ensures { λ r. ⌜ r ≡ outsideBit lo hi g * weight ⌝ }
 {
-    if g < lo {
-        return weight;
-    }
-    if hi < g {
+    let place = (g as u32 + (256 - lo as u32)) % 256;
+    if ((hi - lo) as u32) < place {
         return weight;
     }
     0
@@ -90,7 +90,7 @@ fn outside_weight(g: u8, lo: u8, hi: u8, weight: u8) -> u8
 
 // The flags of the n pixels from place `at` on, and 0 past them.
 pub fn flags_of(grey: &[u8], at: usize, n: usize, lo: u8, hi: u8, weights: &[u8; 64]) -> [u8; 64]
-    requires { ⌜ (n ≤ 64) × (at + n ≤ length (now grey)) × Weighed (λ i. 1) (now weights) ⌝ }
+    requires { ⌜ (n ≤ 64) × (at + n ≤ length (now grey)) × (lo ≤ hi) × Weighed (λ i. 1) (now weights) ⌝ }
     ensures { λ r. ⌜ Weighed (flagAt lo hi (now (grey .entry)) at n) r ⌝ }
 {
     let mut flags = [0u8; 64];

@@ -14,7 +14,7 @@ ghost use Rattle.pack.specs.Gathers.{Weighed};
 
 // The word of the n pixels from place `at` on.
 fn pack_word(grey: &[u8], at: usize, n: usize, lo: u8, hi: u8, weights: &[u8; 64]) -> u64
-    requires { ⌜ (n ≤ 64) × (at + n ≤ length (now grey)) × Weighed (λ i. 1) (now weights) ⌝ }
+    requires { ⌜ (n ≤ 64) × (at + n ≤ length (now grey)) × (lo ≤ hi) × Weighed (λ i. 1) (now weights) ⌝ }
     ensures { λ r. ⌜ r ≡ word (flagAt lo hi (now (grey .entry)) at n) ⌝ }
 {
     let flags = flags_of(grey, at, n, lo, hi, weights);
@@ -23,7 +23,7 @@ fn pack_word(grey: &[u8], at: usize, n: usize, lo: u8, hi: u8, weights: &[u8; 64
 
 // The words of a row of w pixels that begins at place `from`, written from place `to` on.
 pub fn pack_row(grey: &[u8], from: usize, w: usize, lo: u8, hi: u8, out: &mut [u64], to: usize)
-    requires { ⌜ (from + w ≤ length (now grey)) × (to + rowWords w ≤ length (now out)) ⌝ }
+    requires { ⌜ (from + w ≤ length (now grey)) × (to + rowWords w ≤ length (now out)) × (lo ≤ hi) ⌝ }
     ensures { λ _. ⌜ RowAt to (outsideWord lo hi (now (grey .entry)) from w) (now (out .entry)) (rowWords w) (now (out .exit)) ⌝ }
 {
     let weights = WEIGHTS;

@@ -50,7 +50,7 @@ loop-again c =
       omega arith,
       simp length-set len,
       flags-more (a .lo) (a .hi) (a .grey .now) (a .at) (L .i) (L .flags) (c .outside-weight .result) _ (omega arith)
-          (c .before .before .before .before .before .before .pre .2 .held (L .i) (omega arith)) (c .outside-weight .ensures) (L .inv .2),
+          (c .before .before .before .before .before .before .pre .3 .held (L .i) (omega arith)) (c .outside-weight .ensures) (L .inv .2),
     )
 
 returns : tie.Need-returns Inv-loop μ-loop

@@ -30,7 +30,7 @@ add-pack-word : tie.Need-add-pack-word Inv-loop μ-loop
 add-pack-word c = search needs
 
 pack-word-requires : tie.Need-pack-word-requires Inv-loop μ-loop
-pack-word-requires c κs = (omega arith, omega arith, weights-held)
+pack-word-requires c κs = (omega arith, omega arith, omega arith, weights-held)
 
 add-out : tie.Need-add-out Inv-loop μ-loop
 add-out c = search needs
@@ -64,7 +64,7 @@ add-pack-word-2 : tie.Need-add-pack-word-2 Inv-loop μ-loop
 add-pack-word-2 c = search needs
 
 pack-word-requires-2 : tie.Need-pack-word-requires-2 Inv-loop μ-loop
-pack-word-requires-2 c κs = (omega arith, omega arith, weights-held)
+pack-word-requires-2 c κs = (omega arith, omega arith, omega arith, weights-held)
 
 add-out-2 : tie.Need-add-out-2 Inv-loop μ-loop
 add-out-2 c = search needs
