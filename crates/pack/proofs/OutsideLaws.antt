@@ -13,13 +13,14 @@ use borrow.Author.Tests.{lt-ltb, le-ltb}
 use Rattle.rules.specs.Sums.{gate, oneIf}
 use Rattle.rules.specs.Frames.{Frame, frameOf, writtenOver}
 use Rattle.rules.specs.Planes.{thresholdBit, distance, exclusionBit, bitsBy}
-use Rattle.rules.specs.Bitmaps.{rowWords, word, wordOf, packed}
+use Rattle.rules.specs.Bitmaps.{rowWords, bit, word, wordOf, packed}
 use Rattle.rules.proofs.SumLaws.{order, gate-small}
 use Rattle.rules.proofs.FrameLaws.{RowAt, row-more, FrameAt, frame-more, frame-written, row-fits}
 use Rattle.words.proofs.BitLaws.{word-ext}
 use Rattle.pack.proofs.CaseLaws.{compared}
-use Rattle.pack.specs.Outside.{outsideBit, outsidePlane, flagAt, outsideWord}
-use Rattle.pack.specs.Gathers.{Weighed}
+use Rattle.pack.proofs.GatherLaws.{columns-turned}
+use Rattle.pack.specs.Outside.{outsideBit, outsidePlane, flagAt, outsideWord, columnsWord}
+use Rattle.pack.specs.Gathers.{Weighed, byColumns, turnedAt}
 
 -- "Threshold bit: 1 where grey > t."
 pub threshold-outside : (t v : ℕ) → thresholdBit t v ≡ outsideBit 0 t v
@@ -81,15 +82,15 @@ pub outside-lt : (lo hi v : ℕ) → outsideBit lo hi v < 2
 unfolding outsideBit
 outside-lt lo hi v = one-if-lt (ltb v lo || ltb hi v)
 
-pub flag-lt : (lo hi : ℕ) (grey : List ℕ) (at n i : ℕ) → flagAt lo hi grey at n i < 2
+flag-lt : (lo hi : ℕ) (grey : List ℕ) (at n i : ℕ) → flagAt lo hi grey at n i < 2
 unfolding flagAt
 flag-lt lo hi grey at n i = gate-small (ltb i n) (outsideBit lo hi (getD grey (at + i) 0)) (outside-lt lo hi (getD grey (at + i) 0))
 
-pub flag-in : (lo hi : ℕ) (grey : List ℕ) (at n i : ℕ) → i < n → flagAt lo hi grey at n i ≡ outsideBit lo hi (getD grey (at + i) 0)
+flag-in : (lo hi : ℕ) (grey : List ℕ) (at n i : ℕ) → i < n → flagAt lo hi grey at n i ≡ outsideBit lo hi (getD grey (at + i) 0)
 unfolding flagAt
 flag-in lo hi grey at n i l = ap (λ t. gate t (outsideBit lo hi (getD grey (at + i) 0))) (lt-ltb i n l)
 
-pub flag-past : (lo hi : ℕ) (grey : List ℕ) (at n i : ℕ) → n ≤ i → flagAt lo hi grey at n i ≡ 0
+flag-past : (lo hi : ℕ) (grey : List ℕ) (at n i : ℕ) → n ≤ i → flagAt lo hi grey at n i ≡ 0
 unfolding flagAt
 flag-past lo hi grey at n i l = ap (λ t. gate t (outsideBit lo hi (getD grey (at + i) 0))) (le-ltb i n l)
 
@@ -155,13 +156,38 @@ word-of-flags lo hi grey from w k n e =
             flag-past lo hi grey (from + k * 64) n i m
             ∙ sym (ap (λ t. gate t (outsideBit lo hi (getD grey (from + (k * 64 + i)) 0))) (le-ltb (k * 64 + i) w (omega arith)))
 
--- one word more of a row
-pub row-word : (lo hi : ℕ) (grey : List ℕ) (from w to k n : ℕ) (before after : List ℕ) (v : ℕ) → to + k < length before
-    → n ≡ min 64 (w - k * 64) → v ≡ word (flagAt lo hi grey (from + k * 64) n)
-    → RowAt to (outsideWord lo hi grey from w) before k after
-    → RowAt to (outsideWord lo hi grey from w) before (k + 1) (set after (to + k) v)
-row-word lo hi grey from w to k n before after v room e d r =
-    row-more to (outsideWord lo hi grey from w) before k after v room r (d ∙ word-of-flags lo hi grey from w k n e)
+-- one word more of a row by columns
+pub columns-word : (lo hi : ℕ) (grey : List ℕ) (from w to k n : ℕ) (before after : List ℕ) (v : ℕ) → to + k < length before
+    → n ≡ min 64 (w - k * 64) → v ≡ byColumns (flagAt lo hi grey (from + k * 64) n)
+    → RowAt to (columnsWord lo hi grey from w) before k after
+    → RowAt to (columnsWord lo hi grey from w) before (k + 1) (set after (to + k) v)
+unfolding columnsWord
+columns-word lo hi grey from w to k n before after v room e d r =
+    row-more to (columnsWord lo hi grey from w) before k after v room r (d ∙ ap (λ (m : ℕ). byColumns (flagAt lo hi grey (from + k * 64) m)) e)
+
+-- one word more turned in its place
+pub turn-word : (to k : ℕ) (before after : List ℕ) (v : ℕ) → to + k < length before → v ≡ byColumns (bit (getD after (to + k) 0))
+    → RowAt to (turnedAt before to) before k after → RowAt to (turnedAt before to) before (k + 1) (set after (to + k) v)
+unfolding turnedAt
+turn-word to k before after v room e r =
+    row-more to (turnedAt before to) before k after v room r (e ∙ ap (λ (u : ℕ). byColumns (bit u)) (r .over (to + k) (omega arith)))
+
+-- a row by columns, turned
+pub row-turned : (lo hi : ℕ) (grey : List ℕ) (from w to n : ℕ) (before mid after : List ℕ)
+    → RowAt to (columnsWord lo hi grey from w) before n mid → RowAt to (turnedAt mid to) mid n after
+    → RowAt to (outsideWord lo hi grey from w) before n after
+unfolding columnsWord turnedAt
+row-turned lo hi grey from w to n before mid after c t = record {
+  len = t .len ∙ c .len;
+  under = λ m l. t .under m l ∙ c .under m l;
+  done = λ k l.
+      let f : ℕ → ℕ = flagAt lo hi grey (from + k * 64) (min 64 (w - k * 64)) in
+      t .done k l
+      ∙ ap (λ (v : ℕ). byColumns (bit v)) (c .done k l)
+      ∙ columns-turned f (λ i m. flag-lt lo hi grey (from + k * 64) (min 64 (w - k * 64)) i)
+      ∙ word-of-flags lo hi grey from w k (min 64 (w - k * 64)) refl;
+  over = λ m l. t .over m l ∙ c .over m l;
+}
 
 -- The row that begins at place y * w is row y of the frame: one row more of its words from place `to` on.
 pub frame-row : (lo hi w y : ℕ) (grey : List ℕ) (to place : ℕ) (before mid after : List ℕ) → place ≡ to + y * rowWords w

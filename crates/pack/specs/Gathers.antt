@@ -20,6 +20,10 @@ pub record Weighed (f : ℕ → ℕ) (bytes : List ℕ) : Type 0 where
 unfoldable pub byColumns : (ℕ → ℕ) → ℕ
 byColumns f = word (λ i. f (8 * (i % 8) + i / 8))
 
+-- word k of those from place `to` on, turned: columns are rows
+unfoldable pub turnedAt : List ℕ → ℕ → ℕ → ℕ
+turnedAt words to k = byColumns (bit (getD words (to + k) 0))
+
 -- the bits of y that differ from those s above, where the mask has a 1
 abbrev pub exchangeBits : ℕ → ℕ → ℕ → ℕ
 exchangeBits mask s y = bitAnd (bitXor y (y / 2 ^ s)) mask

@@ -1,30 +1,30 @@
 // Rows of pixels packed into words, one bit a pixel: 1 where its grey value lies outside lo..hi.
 
 use crate::gather::gather_columns;
-use crate::gather::turn;
 use crate::outside::WEIGHTS;
 use crate::outside::flags_of;
+use crate::turning::turn_row;
 ghost use mathlib.Core.Path.{_≡_};
 ghost use Prim.Native.Nat.{_+_, _*_, _≤_};
 ghost use lib.ListN.{length};
-ghost use Rattle.rules.specs.Bitmaps.{rowWords, word};
+ghost use Rattle.rules.specs.Bitmaps.{rowWords};
 ghost use Rattle.rules.proofs.FrameLaws.{RowAt};
-ghost use Rattle.pack.specs.Outside.{flagAt, outsideWord};
-ghost use Rattle.pack.specs.Gathers.{Weighed};
+ghost use Rattle.pack.specs.Outside.{flagAt, outsideWord, columnsWord};
+ghost use Rattle.pack.specs.Gathers.{Weighed, byColumns};
 
-// The word of the n pixels from place `at` on.
+// The flags of the n pixels from place `at` on as a word by columns.
 fn pack_word(grey: &[u8], at: usize, n: usize, lo: u8, hi: u8, weights: &[u8; 64]) -> u64
     requires { ⌜ (n ≤ 64) × (at + n ≤ length (now grey)) × (lo ≤ hi) × Weighed (λ i. 1) (now weights) ⌝ }
-    ensures { λ r. ⌜ r ≡ word (flagAt lo hi (now (grey .entry)) at n) ⌝ }
+    ensures { λ r. ⌜ r ≡ byColumns (flagAt lo hi (now (grey .entry)) at n) ⌝ }
 {
     let flags = flags_of(grey, at, n, lo, hi, weights);
-    turn(gather_columns(&flags))
+    gather_columns(&flags)
 }
 
-// The words of a row of w pixels that begins at place `from`, written from place `to` on.
-pub fn pack_row(grey: &[u8], from: usize, w: usize, lo: u8, hi: u8, out: &mut [u64], to: usize)
+// The words of a row of w pixels by columns.
+fn pack_columns(grey: &[u8], from: usize, w: usize, lo: u8, hi: u8, out: &mut [u64], to: usize)
     requires { ⌜ (from + w ≤ length (now grey)) × (to + rowWords w ≤ length (now out)) × (lo ≤ hi) ⌝ }
-    ensures { λ _. ⌜ RowAt to (outsideWord lo hi (now (grey .entry)) from w) (now (out .entry)) (rowWords w) (now (out .exit)) ⌝ }
+    ensures { λ _. ⌜ RowAt to (columnsWord lo hi (now (grey .entry)) from w) (now (out .entry)) (rowWords w) (now (out .exit)) ⌝ }
 {
     let weights = WEIGHTS;
     let full = w / 64;
@@ -37,4 +37,14 @@ pub fn pack_row(grey: &[u8], from: usize, w: usize, lo: u8, hi: u8, out: &mut [u
     if rest > 0 {
         out[to + full] = pack_word(grey, from + full * 64, rest, lo, hi, &weights);
     }
+}
+
+// The words of a row of w pixels that begins at place `from`, written from place `to` on.
+pub fn pack_row(grey: &[u8], from: usize, w: usize, lo: u8, hi: u8, out: &mut [u64], to: usize)
+    requires { ⌜ (from + w ≤ length (now grey)) × (to + rowWords w ≤ length (now out)) × (lo ≤ hi) ⌝ }
+    ensures { λ _. ⌜ RowAt to (outsideWord lo hi (now (grey .entry)) from w) (now (out .entry)) (rowWords w) (now (out .exit)) ⌝ }
+{
+    pack_columns(grey, from, w, lo, hi, out, to);
+    let n = refusals::row_words(w);
+    turn_row(out, to, n);
 }

@@ -4,8 +4,8 @@ use Rattle.pack.specs.Gathers.{exchanged}
 use Rattle.pack.proofs.TurnLaws.{turned-is}
 use native.Mathlib.Omega.{arith}
 use borrow.Author.Needs.{needs}
-use Rattle.pack.proofs.gather.turn.Statement.{statement}
-use Rattle.pack.proofs.gather.turn.Tie as tie
+use Rattle.pack.proofs.turning.turn.Statement.{statement}
+use Rattle.pack.proofs.turning.turn.Tie as tie
 
 exchange-requires : tie.Need-exchange-requires
 exchange-requires c κs = search needs
