@@ -36,6 +36,7 @@ fn pack_within(
     requires sides { ⌜ Sides w h ⌝ }
     requires frame { ⌜ from + w * h ≤ length (now grey) ⌝ }
     requires room { ⌜ to + 2 * (rowWords w * h) ≤ length (now words) ⌝ }
+    requires interval { ⌜ lo ≤ hi ⌝ }
     ensures { λ _. ⌜ BothAt to (to + rowWords w * h) (rowWords w) (wordOf w (outsidePlane 0 threshold w (drop from (now (grey .entry))))) (wordOf w (outsidePlane lo hi w (drop from (now (grey .entry))))) (now (words .entry)) h (now (words .exit)) ⌝ }
 {
     let n = row_words(w);

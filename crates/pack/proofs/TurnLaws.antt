@@ -11,8 +11,9 @@ use borrow.Author.Tests.{lt-leb, le-leb, ltb-true, eqb-true}
 use Rattle.rules.specs.Sums.{gate}
 use Rattle.rules.specs.Bitmaps.{bit}
 use Rattle.rules.proofs.SumLaws.{order}
-use Rattle.words.proofs.BitLaws.{bit-and, bit-xor, bit-shr, bit-lt, bit-shl64-high, bit-shl64-low}
-use Rattle.pack.specs.Gathers.{exchangeBits, exchanged}
+use Rattle.words.proofs.BitLaws.{bit-and, bit-xor, bit-shr, bit-lt, bit-shl64-high, bit-shl64-low, word-is}
+use Rattle.pack.specs.Gathers.{byColumns, exchangeBits, exchanged}
+use Rattle.pack.proofs.CaseLaws.{and-both, all, all-at}
 
 differ-zero : (a : ℕ) → differ a 0 ≡ a
 differ-zero zero = refl
@@ -96,26 +97,6 @@ exchange-bit mask s y p l e =
         ∙ ap (λ (q : ℕ). min (differ (bit y (p - s)) (bit y q)) (bit mask (p - s))) d
         ∙ sym (ap (λ c. min (differ (bit y (p - s)) (bit y p)) (gate c (bit mask (p - s)))) (le-leb s p k))
 
--- a test of every number below n
-all : ℕ → (ℕ → Bool) → Bool
-all zero test = true
-all (suc n) test = test n && all n test
-
-and-both : (a b : Bool) → a && b ≡ true → (a ≡ true) × (b ≡ true)
-and-both true b e = (refl, e)
-and-both false b e = absurd (false≢true e)
-
-all-at : (n : ℕ) (test : ℕ → Bool) → all n test ≡ true → (p : ℕ) → p < n → test p ≡ true
-unfolding all
-all-at zero test e p l = absurd (omega arith)
-all-at (suc n) test e p l = ⊎-elim (λ (k : p < n). all-at n test (both .1) p k) (λ (k : n ≤ p). rw (at k) (both .0)) (order p n)
-  where
-    both : (test n ≡ true) × (all n test ≡ true)
-    both = and-both (test n) (all n test) e
-
-    at : n ≤ p → p ≡ n
-    at k = omega arith
-
 -- Three exchanges turn columns into rows: of single bits, of squares of 2 by 2, of squares of 4 by 4.
 abbrev ones : ℕ
 ones = 0x00AA_00AA_00AA_00AA
@@ -126,7 +107,7 @@ twos = 0x0000_CCCC_0000_CCCC
 abbrev fours : ℕ
 fours = 0x0000_0000_F0F0_F0F0
 
-abbrev pub turned : ℕ → ℕ
+abbrev turned : ℕ → ℕ
 turned y = exchanged fours 28 (exchanged twos 14 (exchanged ones 7 y))
 
 -- the bits that the third, the second and the first exchange take bit p from
@@ -149,7 +130,7 @@ all-turn : all 64 turns ≡ true
 unfolding all turns third second first from once under bit
 all-turn = refl
 
-pub turned-bit : (y p : ℕ) → p < 64 → bit (turned y) p ≡ bit y (8 * (p % 8) + p / 8)
+turned-bit : (y p : ℕ) → p < 64 → bit (turned y) p ≡ bit y (8 * (p % 8) + p / 8)
 unfolding turns third second first
 turned-bit y p l =
     let a = and-both _ _ (all-at 64 turns all-turn p l) in
@@ -161,3 +142,7 @@ turned-bit y p l =
     ∙ exchange-bit twos 14 _ (third p) (ltb-true (third p) 64 (c .0)) (c .1)
     ∙ exchange-bit ones 7 y (second p) (ltb-true (second p) 64 (e .0)) (e .1)
     ∙ ap (λ (q : ℕ). bit y q) (eqb-true (first p) (8 * (p % 8) + p / 8) (d .1))
+
+pub turned-is : (y v : ℕ) → v < 2 ^ 64 → v ≡ turned y → v ≡ byColumns (bit y)
+unfolding byColumns
+turned-is y v l e = word-is v (λ i. bit y (8 * (i % 8) + i / 8)) l (λ i k. ap (λ (u : ℕ). bit u i) e ∙ turned-bit y i k)

@@ -1,13 +1,28 @@
--- Numbers known by their bytes, and exchanges of bits.
+-- Numbers known by their bytes, exchanges of bits, and 64 flags as 8 by 8 bits of a word.
 use mathlib.Core.Path.{_≡_}
+use mathlib.Core.List.{List}
 use Prim.Native.Nat.{ℕ, _+_, _*_, _/_, _%_, _^_, _<_}
 use lib.Bits.{bitAnd, bitXor}
-use Rattle.rules.specs.Bitmaps.{bit}
+use lib.ListN.{getD}
+use Rattle.rules.specs.Bitmaps.{bit, word}
 
 -- v has n bytes, and byte k is f k
 pub record Bytes (n : ℕ) (f : ℕ → ℕ) (v : ℕ) : Type 0 where
   pub small : v < 2 ^ (8 * n)
   pub bits : (k m : ℕ) → k < n → m < 8 → bit v (8 * k + m) ≡ bit (f k) m
+
+-- the flags f i, each 0 or 1, held as 0 or a weight: flag i as bit i / 8 of byte i
+pub record Weighed (f : ℕ → ℕ) (bytes : List ℕ) : Type 0 where
+  pub flag : (i : ℕ) → i < 64 → f i < 2
+  pub held : (i : ℕ) → i < 64 → getD bytes i 0 ≡ f i * 2 ^ (i / 8)
+
+-- the word whose bits, 8 by 8, are the flags f by columns
+unfoldable pub byColumns : (ℕ → ℕ) → ℕ
+byColumns f = word (λ i. f (8 * (i % 8) + i / 8))
+
+-- word k of those from place `to` on, turned: columns are rows
+unfoldable pub turnedAt : List ℕ → ℕ → ℕ → ℕ
+turnedAt words to k = byColumns (bit (getD words (to + k) 0))
 
 -- the bits of y that differ from those s above, where the mask has a 1
 abbrev pub exchangeBits : ℕ → ℕ → ℕ → ℕ

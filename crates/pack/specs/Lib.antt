@@ -1,3 +1,3 @@
 -- What the packing functions keep, in terms of document 01's definitions.
-pub mod Outside
 pub mod Gathers
+pub mod Outside

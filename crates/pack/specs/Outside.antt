@@ -1,13 +1,14 @@
 -- Both bits of a pixel are one test: a grey value lies outside an interval.
 use mathlib.Core.Bool.{_||_}
 use mathlib.Core.List.{List}
-use Prim.Native.Nat.{ℕ, _+_}
+use Prim.Native.Nat.{ℕ, _+_, _*_, _-_, min}
 use lib.Dec.{ltb}
 use lib.ListN.{getD}
 use Rattle.rules.specs.Sums.{gate, oneIf}
 use Rattle.rules.specs.Frames.{Frame, frameOf}
 use Rattle.rules.specs.Planes.{bitsBy}
 use Rattle.rules.specs.Bitmaps.{wordOf}
+use Rattle.pack.specs.Gathers.{byColumns}
 
 -- 1 where v lies outside lo..hi, both included
 unfoldable pub outsideBit : ℕ → ℕ → ℕ → ℕ
@@ -24,3 +25,7 @@ flagAt lo hi grey at n i = gate (ltb i n) (outsideBit lo hi (getD grey (at + i) 
 -- word k of the row of w pixels that begins at place `from` of a grey list
 unfoldable pub outsideWord : ℕ → ℕ → List ℕ → ℕ → ℕ → ℕ → ℕ
 outsideWord lo hi grey from w k = wordOf w (λ x y. outsideBit lo hi (getD grey (from + x) 0)) k 0
+
+-- the flags of that word by columns: of 64 pixels, or of what is left of the row
+unfoldable pub columnsWord : ℕ → ℕ → List ℕ → ℕ → ℕ → ℕ → ℕ
+columnsWord lo hi grey from w k = byColumns (flagAt lo hi grey (from + k * 64) (min 64 (w - k * 64)))

@@ -19,7 +19,7 @@ pub fn pack_frame(
     thresholds: &mut [u64],
     exclusions: &mut [u64],
 )
-    requires { ⌜ (length (now grey) ≡ w * h) × (rowWords w * h ≤ length (now thresholds)) × (rowWords w * h ≤ length (now exclusions)) ⌝ }
+    requires { ⌜ (length (now grey) ≡ w * h) × (rowWords w * h ≤ length (now thresholds)) × (rowWords w * h ≤ length (now exclusions)) × (lo ≤ hi) ⌝ }
     ensures { λ _. ⌜ FrameAt 0 (rowWords w) (wordOf w (outsidePlane 0 threshold w (now (grey .entry)))) (now (thresholds .entry)) h (now (thresholds .exit)) ⌝ }
     ensures { λ _. ⌜ FrameAt 0 (rowWords w) (wordOf w (outsidePlane lo hi w (now (grey .entry)))) (now (exclusions .entry)) h (now (exclusions .exit)) ⌝ }
 {

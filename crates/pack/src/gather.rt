@@ -1,13 +1,11 @@
-// 64 flags, each 0 or 1, gathered into a word with no step for a single flag: eight words of eight
-// flags, laid over each other, are the flags as 8 by 8 bits by columns, and exchanges of bits turn
-// columns into rows: of single bits, of squares of 2 by 2, of squares of 4 by 4.
+// 64 flags gathered into a word with no step for a single flag: eight words of eight flags, each held
+// as its weight, laid over each other are the flags as 8 by 8 bits by columns.
 
 ghost use mathlib.Core.Path.{_≡_};
 ghost use mathlib.Core.List.{[], _∷_};
-ghost use Prim.Native.Nat.{ℕ, _+_, _≤_, _<_};
+ghost use Prim.Native.Nat.{ℕ, _+_, _≤_};
 ghost use lib.ListN.{getD};
-ghost use Rattle.rules.specs.Bitmaps.{word};
-ghost use Rattle.pack.specs.Gathers.{Bytes, exchanged};
+ghost use Rattle.pack.specs.Gathers.{Bytes, Weighed, byColumns};
 
 // The word of eight bytes, the lowest first. (With `|` and `<<` the compiler sees one load.)
 fn join(a: u8, b: u8, c: u8, d: u8, e: u8, f: u8, g: u8, h: u8) -> u64
@@ -40,29 +38,16 @@ fn eight_flags(flags: &[u8; 64], at: usize) -> u64
     )
 }
 
-// Where bit p of the mask is 1, bits p and p + s of y exchanged.
-fn exchange(mask: u64, s: u32, y: u64) -> u64
-    requires { ⌜ s < 64 ⌝ }
-    ensures { λ r. ⌜ r ≡ exchanged mask s y ⌝ }
+// The word of 64 flags by columns.
+pub fn gather_columns(flags: &[u8; 64]) -> u64
+    ensures { λ r. ⌜ ((f : ℕ → ℕ) → Weighed f (now (flags .entry)) → r ≡ byColumns f) ⌝ }
 {
-    let t = (y ^ (y >> s)) & mask;
-    y ^ t ^ (t << s)
-}
-
-// The word whose bit i is flag i.
-pub fn gather_word(flags: &[u8; 64]) -> u64
-    requires { ⌜ ((i : ℕ) → i < 64 → getD (now flags) i 0 < 2) ⌝ }
-    ensures { λ r. ⌜ r ≡ word (λ i. getD (now (flags .entry)) i 0) ⌝ }
-{
-    let columns = eight_flags(flags, 0)
-        | (eight_flags(flags, 8) << 1)
-        | (eight_flags(flags, 16) << 2)
-        | (eight_flags(flags, 24) << 3)
-        | (eight_flags(flags, 32) << 4)
-        | (eight_flags(flags, 40) << 5)
-        | (eight_flags(flags, 48) << 6)
-        | (eight_flags(flags, 56) << 7);
-    let ones = exchange(0x00AA_00AA_00AA_00AA, 7, columns);
-    let twos = exchange(0x0000_CCCC_0000_CCCC, 14, ones);
-    exchange(0x0000_0000_F0F0_F0F0, 28, twos)
+    eight_flags(flags, 0)
+        | eight_flags(flags, 8)
+        | eight_flags(flags, 16)
+        | eight_flags(flags, 24)
+        | eight_flags(flags, 32)
+        | eight_flags(flags, 40)
+        | eight_flags(flags, 48)
+        | eight_flags(flags, 56)
 }

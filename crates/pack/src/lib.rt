@@ -10,6 +10,7 @@ mod gather;
 pub mod interval;
 mod outside;
 pub mod rows;
+mod turning;
 
 ghost use mathlib.Core.Path.{_≡_};
 ghost use Rattle.rules.specs.Answers.{written};

@@ -2,8 +2,8 @@
 use mathlib.Core.Path.{refl}
 use Rattle.pack.specs.Gathers.{exchanged}
 use borrow.Author.Needs.{needs}
-use Rattle.pack.proofs.gather.exchange.Statement.{statement}
-use Rattle.pack.proofs.gather.exchange.Tie as tie
+use Rattle.pack.proofs.turning.exchange.Statement.{statement}
+use Rattle.pack.proofs.turning.exchange.Tie as tie
 
 shr-t : tie.Need-shr-t
 shr-t c = search needs
