@@ -1,3 +1,3 @@
--- Laws of rows and frames written place by place and of 16-bit halves, for the cores' proofs.
+-- Laws of rows and frames written place by place and of bytes brought together by colour, for the cores' proofs.
 pub mod PlaceLaws
-pub mod HalfLaws
+pub mod ColourLaws

@@ -2,7 +2,7 @@
 use Prim.Native.Nat.{_*_, _/_}
 use native.Mathlib.Omega.{arith}
 use borrow.Author.Needs.{needs}
-use Rattle.frame.proofs.HalfLaws.{grey-rest}
+use Rattle.frame.proofs.ColourLaws.{grey-rest}
 use Rattle.frame.proofs.conversion.convert.Statement.{statement}
 use Rattle.frame.proofs.conversion.convert.Tie as tie
 
@@ -38,7 +38,7 @@ returns c =
     (blocks .convert-blocks .last .1 .1 .0)
     (rest .convert-rest .last .1 .1 .1 .0)
     (a .to)
-    (64 * (a .n / 64))
+    (32 * (a .n / 32))
     (a .n)
     (omega arith)
     (blocks .convert-blocks .ensures)

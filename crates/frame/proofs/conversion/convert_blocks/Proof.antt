@@ -5,12 +5,12 @@ use native.Mathlib.Omega.{arith}
 use borrow.Author.Needs.{needs}
 use Rattle.rules.proofs.FrameLaws.{RowAt, row-none}
 use Rattle.frame.specs.Places.{greyAt}
-use Rattle.frame.proofs.HalfLaws.{block-grey, grey-more}
+use Rattle.frame.proofs.ColourLaws.{block-grey, grey-more}
 use Rattle.frame.proofs.conversion.convert_blocks.Statement.{statement}
 use Rattle.frame.proofs.conversion.convert_blocks.Tie as tie
 
 abbrev Inv-loop : tie.InvT-loop
-Inv-loop raster blocks grey₀ to b₀ grey b = (b ≤ blocks) × RowAt to (greyAt raster) grey₀ (64 * b) grey
+Inv-loop raster blocks grey₀ to b₀ grey b = (b ≤ blocks) × RowAt to (greyAt raster) grey₀ (32 * b) grey
 
 abbrev μ-loop : tie.MeasureT-loop
 μ-loop raster blocks grey₀ to b₀ grey b = blocks - b
@@ -18,11 +18,14 @@ abbrev μ-loop : tie.MeasureT-loop
 loop-holds : tie.Need-loop-holds Inv-loop μ-loop
 loop-holds c = (omega arith, row-none _ _ _)
 
-mul-halves : tie.Need-mul-halves Inv-loop μ-loop
-mul-halves c = search needs
+mul-block-bytes : tie.Need-mul-block-bytes Inv-loop μ-loop
+mul-block-bytes c = search needs
 
-halves-requires : tie.Need-halves-requires Inv-loop μ-loop
-halves-requires c κs = search needs
+block-bytes-requires : tie.Need-block-bytes-requires Inv-loop μ-loop
+block-bytes-requires c κs = search needs
+
+planes-requires : tie.Need-planes-requires Inv-loop μ-loop
+planes-requires c κs = search needs
 
 weighed-requires : tie.Need-weighed-requires Inv-loop μ-loop
 weighed-requires c κs = search needs
@@ -46,27 +49,22 @@ loop-again : tie.Need-loop-again Inv-loop μ-loop
 loop-again c =
     let stored = c .before .before in
     let greys = stored .before .before .before in
-    let made = greys .before .before in
-    let lp = made .before .before .loop in
-    let known = made .before .before .before .before in
-    let a = known .before .args in (
+    let colours = greys .before .before in
+    let bytes = colours .before .before in
+    let lp = bytes .before .before .loop in
+    let a = bytes .before .before .before .before .before .args in
+    let raster = a .raster .now in
+    let block = greys .weighed .result in (
       omega arith,
-      grey-more
-          (a .raster .now)
-          (greys .weighed .result)
-          (a .grey .now)
-          (lp .grey)
-          (stored .store .last .1 .0)
-          (a .to)
-          (lp .b)
-          (lp .inv .1)
+      grey-more raster block (a .grey .now) (lp .grey) (stored .store .last .1 .0) (a .to) (lp .b) (lp .inv .1)
           (block-grey
-          (a .raster .now)
-          (made .halves .result)
-          (greys .weighed .result)
-          (192 * lp .b)
-          (λ i. known .shared-slice-known .given i .fits)
-          (made .halves .ensures)
+          raster
+          (bytes .block-bytes .result)
+          (colours .planes .result)
+          block
+          (96 * lp .b)
+          (bytes .block-bytes .ensures)
+          (colours .planes .ensures)
           (greys .weighed .ensures))
           (stored .store .ensures),
     )
@@ -87,8 +85,9 @@ convert-blocks-spec =
     Inv-loop
     μ-loop
     loop-holds
-    mul-halves
-    halves-requires
+    mul-block-bytes
+    block-bytes-requires
+    planes-requires
     weighed-requires
     mul-store
     add-store

@@ -10,10 +10,10 @@ use Rattle.frame.proofs.conversion.store.Statement.{statement}
 use Rattle.frame.proofs.conversion.store.Tie as tie
 
 abbrev Inv-loop : tie.InvT-loop
-Inv-loop block grey₀ to k₀ grey k = (k ≤ 64) × RowAt to (numberAt block) grey₀ k grey
+Inv-loop block grey₀ to k₀ grey k = (k ≤ 32) × RowAt to (numberAt block) grey₀ k grey
 
 abbrev μ-loop : tie.MeasureT-loop
-μ-loop block grey₀ to k₀ grey k = 64 - k
+μ-loop block grey₀ to k₀ grey k = 32 - k
 
 loop-holds : tie.Need-loop-holds Inv-loop μ-loop
 loop-holds c = (omega arith, row-none _ _ _)
@@ -46,7 +46,7 @@ same-length c = search needs
 returns : tie.Need-returns Inv-loop μ-loop
 returns c =
     let lp = c .before .loop in
-    let e : lp .k ≡ 64 = omega arith in
+    let e : lp .k ≡ 32 = omega arith in
     rw e at (lp .inv .1)
 
 pub store-spec : {M : Type 1} → statement M
