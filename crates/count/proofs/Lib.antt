@@ -2,5 +2,6 @@
 pub mod Table
 pub mod OnesLaws
 pub mod RowLaws
+pub mod AdderLaws
 pub mod DifferLaws
 pub mod AnswerLaws

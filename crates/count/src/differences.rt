@@ -1,6 +1,7 @@
 // The difference count of two frames' packed bitmaps. The second frame's rows are moved word by word
 // on reading.
 
+use crate::adder::seven_ones;
 use crate::ones::word_ones;
 use refusals::row_words;
 use words::biased;
@@ -13,7 +14,7 @@ ghost use Rattle.rules.specs.Limits.{maxSide, wordBits};
 ghost use Rattle.rules.specs.Sums.{sum};
 ghost use Rattle.rules.specs.Differences.{difference};
 ghost use Rattle.rules.specs.Calls.{planesOf};
-ghost use Rattle.words.specs.Rows.{biasWords};
+ghost use Rattle.words.specs.Rows.{WordOf, biasWords};
 ghost use Rattle.count.specs.Ones.{CountsOnes};
 ghost use Rattle.count.specs.Rows.{Adds, movedDiffer, lineDiffer, Moves, RowsIn, FramesIn, Joined};
 
@@ -27,13 +28,14 @@ const BIAS_WORDS: usize = 33554432;
 
 // A move of rows of w pixels, in n words, by q words, counted from the bias, and r bits. A word from
 // `first` up to `end` is interior: it is made of two words of the row, all three of them full, and so
-// needs no test and no mask.
+// needs no test and no mask. Up to `rest` they go in blocks of seven.
 pub struct Move {
     pub w: usize,
     pub n: usize,
     pub q: usize,
     pub r: usize,
     pub first: usize,
+    pub rest: usize,
     pub end: usize,
 }
 
@@ -59,12 +61,14 @@ fn move_by(w: usize, d: usize) -> Move
     let full = w / WORD_BITS;
     let end = lower(full, upper(q + full, BIAS_WORDS) - BIAS_WORDS);
     let first = lower(end, upper(q + 1, BIAS_WORDS) - BIAS_WORDS);
+    let rest = end - (end - first) % 7;
     Move {
         w,
         n,
         q,
         r: d % WORD_BITS,
         first,
+        rest,
         end,
     }
 }
@@ -79,7 +83,29 @@ fn joined_word(src: &[u64], j: usize, r: usize) -> u64
     (src[j] << r) | ((src[j - 1] >> 1) >> (63 - r))
 }
 
-// One interior word. A word with no kept pixel is left before its threshold bits are read.
+// The pixels of interior word k at which the two rows differ.
+fn differing_word(
+    t1: &[u64],
+    e1: &[u64],
+    t2: &[u64],
+    e2: &[u64],
+    base: usize,
+    from: usize,
+    m: Move,
+    k: usize,
+) -> u64
+    requires moves { ⌜ Moves m ⌝ }
+    requires here { ⌜ (m .first ≤ k) × (k < m .end) ⌝ }
+    requires rows { ⌜ RowsIn (now t1) (now e1) (now t2) (now e2) base from (m .w) ⌝ }
+    ensures { λ v. ⌜ WordOf (movedDiffer (now (t1 .entry)) (now (e1 .entry)) (now (t2 .entry)) (now (e2 .entry)) base from m) k v ⌝ }
+{
+    let i = base + k;
+    let j = from + k + BIAS_WORDS - m.q;
+    let kept = e1[i] & joined_word(e2, j, m.r);
+    (t1[i] ^ joined_word(t2, j, m.r)) & kept
+}
+
+// One interior word. A word with no difference is left before the look-ups.
 fn interior_word(
     t1: &[u64],
     e1: &[u64],
@@ -97,13 +123,41 @@ fn interior_word(
     requires table { ⌜ CountsOnes (now ones) ⌝ }
     ensures { λ r. ⌜ Adds (movedDiffer (now (t1 .entry)) (now (e1 .entry)) (now (t2 .entry)) (now (e2 .entry)) base from m) k (k + 1) r ⌝ }
 {
-    let i = base + k;
-    let j = from + k + BIAS_WORDS - m.q;
-    let kept = e1[i] & joined_word(e2, j, m.r);
-    if kept == 0 {
+    let v = differing_word(t1, e1, t2, e2, base, from, m, k);
+    if v == 0 {
         return 0;
     }
-    word_ones((t1[i] ^ joined_word(t2, j, m.r)) & kept, ones)
+    word_ones(v, ones)
+}
+
+// Seven interior words, from k on.
+fn interior_block(
+    t1: &[u64],
+    e1: &[u64],
+    t2: &[u64],
+    e2: &[u64],
+    base: usize,
+    from: usize,
+    m: Move,
+    k: usize,
+    ones: &[u8; 256],
+) -> u32
+    requires moves { ⌜ Moves m ⌝ }
+    requires here { ⌜ (m .first ≤ k) × (k + 7 ≤ m .end) ⌝ }
+    requires rows { ⌜ RowsIn (now t1) (now e1) (now t2) (now e2) base from (m .w) ⌝ }
+    requires table { ⌜ CountsOnes (now ones) ⌝ }
+    ensures { λ r. ⌜ Adds (movedDiffer (now (t1 .entry)) (now (e1 .entry)) (now (t2 .entry)) (now (e2 .entry)) base from m) k (k + 7) r ⌝ }
+{
+    seven_ones(
+        differing_word(t1, e1, t2, e2, base, from, m, k),
+        differing_word(t1, e1, t2, e2, base, from, m, k + 1),
+        differing_word(t1, e1, t2, e2, base, from, m, k + 2),
+        differing_word(t1, e1, t2, e2, base, from, m, k + 3),
+        differing_word(t1, e1, t2, e2, base, from, m, k + 4),
+        differing_word(t1, e1, t2, e2, base, from, m, k + 5),
+        differing_word(t1, e1, t2, e2, base, from, m, k + 6),
+        ones,
+    )
 }
 
 // One word near a row's edge.
@@ -182,6 +236,58 @@ fn last_word(
     word_ones((t1[i] ^ ((t2[j] >> 1) >> (63 - m.r))) & kept, ones)
 }
 
+// A row's interior words up to `rest`.
+fn interior_blocks(
+    t1: &[u64],
+    e1: &[u64],
+    t2: &[u64],
+    e2: &[u64],
+    base: usize,
+    from: usize,
+    m: Move,
+    ones: &[u8; 256],
+) -> u32
+    requires moves { ⌜ Moves m ⌝ }
+    requires rows { ⌜ RowsIn (now t1) (now e1) (now t2) (now e2) base from (m .w) ⌝ }
+    requires table { ⌜ CountsOnes (now ones) ⌝ }
+    ensures { λ r. ⌜ Adds (movedDiffer (now (t1 .entry)) (now (e1 .entry)) (now (t2 .entry)) (now (e2 .entry)) base from m) (m .first) (m .rest) r ⌝ }
+{
+    let mut count: u32 = 0;
+    let mut k = m.first;
+    let rest = m.rest;
+    while k < rest {
+        count += interior_block(t1, e1, t2, e2, base, from, m, k, ones);
+        k += 7;
+    }
+    count
+}
+
+// The fewer than seven that are left.
+fn interior_rest(
+    t1: &[u64],
+    e1: &[u64],
+    t2: &[u64],
+    e2: &[u64],
+    base: usize,
+    from: usize,
+    m: Move,
+    ones: &[u8; 256],
+) -> u32
+    requires moves { ⌜ Moves m ⌝ }
+    requires rows { ⌜ RowsIn (now t1) (now e1) (now t2) (now e2) base from (m .w) ⌝ }
+    requires table { ⌜ CountsOnes (now ones) ⌝ }
+    ensures { λ r. ⌜ Adds (movedDiffer (now (t1 .entry)) (now (e1 .entry)) (now (t2 .entry)) (now (e2 .entry)) base from m) (m .rest) (m .end) r ⌝ }
+{
+    let mut count: u32 = 0;
+    let mut k = m.rest;
+    let end = m.end;
+    while k < end {
+        count += interior_word(t1, e1, t2, e2, base, from, m, k, ones);
+        k += 1;
+    }
+    count
+}
+
 // A row's interior words.
 fn interior(
     t1: &[u64],
@@ -198,14 +304,8 @@ fn interior(
     requires table { ⌜ CountsOnes (now ones) ⌝ }
     ensures { λ r. ⌜ Adds (movedDiffer (now (t1 .entry)) (now (e1 .entry)) (now (t2 .entry)) (now (e2 .entry)) base from m) (m .first) (m .end) r ⌝ }
 {
-    let mut count: u32 = 0;
-    let mut k = m.first;
-    let end = m.end;
-    while k < end {
-        count += interior_word(t1, e1, t2, e2, base, from, m, k, ones);
-        k += 1;
-    }
-    count
+    interior_blocks(t1, e1, t2, e2, base, from, m, ones)
+        + interior_rest(t1, e1, t2, e2, base, from, m, ones)
 }
 
 // The words of a row from `first` up to `end`.
