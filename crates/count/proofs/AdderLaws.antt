@@ -13,7 +13,7 @@ pub data Bit : ℕ → Type 0 where
   off : Bit 0
   on : Bit 1
 
-number-case : (n : ℕ) → n < 2 → Bit n
+pub number-case : (n : ℕ) → n < 2 → Bit n
 number-case zero l = off
 number-case (suc zero) l = on
 number-case (suc (suc n)) l = absurd (omega arith)

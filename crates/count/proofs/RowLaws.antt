@@ -97,6 +97,10 @@ pub row-words-le : (w : ℕ) → w ≤ 4096 → rowWords w ≤ 64
 unfolding rowWords
 row-words-le w l = omega arith
 
+pub row-words-all : (w : ℕ) → (w ≤ rowWords w * 64) × (rowWords w * 64 < w + 64)
+unfolding rowWords
+row-words-all w = (omega arith, omega arith)
+
 pub row-room : (n w h y room : ℕ) → n ≡ rowWords w → rowWords w * h ≤ room → y < h → y * n + rowWords w ≤ room
 row-room n w h y room e r l = let a = row-fits (rowWords w) h y l in let b = ap (λ (m : ℕ). y * m) e in omega arith
 

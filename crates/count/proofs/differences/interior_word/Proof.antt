@@ -1,6 +1,5 @@
 -- The word of differences adds its bits; without one it adds nothing.
 use Prim.Native.Nat.{ℕ}
-use native.Mathlib.Omega.{arith}
 use borrow.Author.Needs.{needs}
 use Rattle.count.specs.Rows.{movedDiffer}
 use Rattle.count.proofs.RowLaws.{word-none, word-adds}
