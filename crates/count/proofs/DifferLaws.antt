@@ -1,15 +1,15 @@
 -- The difference of two frames, row by row and word by word.
-use mathlib.Core.Path.{_≡_, refl, sym, ap, ap₂, _∙_}
+use mathlib.Core.Path.{_≡_, refl, sym, ap, ap₂, subst, _∙_}
 use mathlib.Core.Bool.{Bool, true, false, _&&_, not}
 use mathlib.Core.Logic.{⊎-elim}
 use mathlib.Core.List.{List}
-use Prim.Native.Nat.{ℕ, zero, suc, _+_, _*_, _-_, _/_, _%_, _^_, _≤_, _<_, min, max}
-use native.Mathlib.Nat.{add-zero, mod-lt, le-trans, lt-of-lt-of-le}
+use Prim.Native.Nat.{ℕ, _+_, _*_, _-_, _/_, _%_, _≤_, _<_, min, max}
+use native.Mathlib.Nat.{mod-lt, le-trans, lt-of-lt-of-le}
 use native.Mathlib.Omega.{arith}
 use lib.Dec.{ltb, leb, eqb}
 use lib.ListN.{length, getD}
 use lib.IntN.{ℤ, pos, negsuc, _-ℤ_}
-use lib.Bits.{bitAnd, bitOr, bitXor, differ}
+use lib.Bits.{bitAnd, bitXor, differ}
 use mir.Syntax.{w32}
 use mir.Val.{SFits}
 use Rattle.rules.specs.Sums.{gate, oneIf, sum, rowSum, sumPixels}
@@ -20,10 +20,12 @@ use Rattle.rules.specs.Calls.{planesOf}
 use Rattle.rules.proofs.SumLaws.{order, gate-le, sum-ext, sum-zero, gate-zero}
 use Rattle.count.specs.declared.differences.Move.{Move}
 use Rattle.words.specs.Rows.{WordOf, rowBit, back, bias, biasWords, biasOf}
-use Rattle.words.proofs.BitLaws.{bit-lt, bit-and, bit-or, bit-xor, bit-shr, bit-above, bit-zero, bit-shl64-high, bit-shl64-low}
-use Rattle.words.proofs.MoveLaws.{gate-lt, gate-ge, row-bit, row-past, back-at, back-under, within-back, moved-first}
+use Rattle.words.proofs.BitLaws.{bit-and, bit-xor, bit-zero}
+use Rattle.words.proofs.MoveLaws.{gate-lt, gate-ge, row-bit, row-past, back-at, back-under, within-back}
 use Rattle.count.specs.Rows.{Adds, frameDiffer, disagree, movedBit, rowDiffer, lineDiffer, movedDiffer, Joined, Interior, Moves, RowsIn, FramesIn}
-use Rattle.count.proofs.RowLaws.{word-more, word-none, full-word, bitAt-in, bits-le, row-room}
+use Rattle.count.proofs.AdderLaws.{Bit, off, on, bit-case}
+use Rattle.count.proofs.MovedLaws.{MovedIn, keptBit, row-case, moved-case, kept-first, kept-partner, kept-left, kept-right, raw-word, raw-moved, joined-moved, whole-moved}
+use Rattle.count.proofs.RowLaws.{word-adds, word-none, full-word, bitAt-in, bits-le, row-room}
 
 -- ---- the four bits of a pixel
 
@@ -45,15 +47,6 @@ disagree-right t1 e1 t2 = out (eqb e1 1)
     out false = refl
 
 -- exclusive-or first, exclusion after it
-data Bit : ℕ → Type 0 where
-  off : Bit 0
-  on : Bit 1
-
-bit-case : (n : ℕ) → n < 2 → Bit n
-bit-case zero l = off
-bit-case (suc zero) l = on
-bit-case (suc (suc n)) l = absurd (omega arith)
-
 masked-disagree : {t1 e1 t2 e2 : ℕ} → Bit t1 → Bit e1 → Bit t2 → Bit e2 → min (differ t1 t2) (min e1 e2) ≡ disagree t1 e1 t2 e2
 unfolding disagree
 masked-disagree off off off off = refl
@@ -81,19 +74,22 @@ excluded t1 t2 on on l = absurd (omega arith)
 
 -- ---- the pixels of a word
 
-mixed-bit : (t1 e1 t2 e2 i : ℕ) → bit (bitAnd (bitXor t1 t2) (bitAnd e1 e2)) i ≡ disagree (bit t1 i) (bit e1 i) (bit t2 i) (bit e2 i)
-mixed-bit t1 e1 t2 e2 i =
-    bit-and (bitXor t1 t2) (bitAnd e1 e2) i
-    ∙ ap₂ (λ (a b : ℕ). min a b) (bit-xor t1 t2 i) (bit-and e1 e2 i)
-    ∙ masked-disagree (bit-case (bit t1 i) (bit-lt t1 i)) (bit-case (bit e1 i) (bit-lt e1 i)) (bit-case (bit t2 i) (bit-lt t2 i)) (bit-case (bit e2 i) (bit-lt e2 i))
+pub rowDiffer-past : (t1 e1 t2 e2 : List ℕ) (base from w d x : ℕ) → w ≤ x → rowDiffer t1 e1 t2 e2 base from w d x ≡ 0
+unfolding rowDiffer
+rowDiffer-past t1 e1 t2 e2 base from w d x l =
+    ap (λ (n : ℕ). disagree (rowBit t1 base w x) n (movedBit t2 from w d x) (movedBit e2 from w d x)) (row-past e1 base w x l)
+    ∙ disagree-left (rowBit t1 base w x) (movedBit t2 from w d x) (movedBit e2 from w d x)
 
--- A word of the difference of two rows, from the four rows' words.
--- The first threshold word may have any bits past w: its exclusion word has none there.
-module _ (t1 e1 t2 e2 : List ℕ) (base from w d k k1 k2 : ℕ) (b : WordOf (rowBit e1 base w) k k1) (e : WordOf (movedBit e2 from w d) k k2) where
-  differ-word : (u2 : ℕ) → WordOf (movedBit t2 from w d) k u2
-      → WordOf (rowDiffer t1 e1 t2 e2 base from w d) k (bitAnd (bitXor (getD t1 (base + k) 0) u2) (bitAnd k1 k2))
+module _ (t1 e1 t2 e2 : List ℕ) (base from w d k kept : ℕ) (a : WordOf (keptBit e1 e2 base from w d) k kept) where
+  -- A word of the difference of two rows. Threshold bits matter only where the pixel is kept, so inside both rows.
+  pub differ-word : (u2 : ℕ) → MovedIn t2 from w d k u2 → WordOf (rowDiffer t1 e1 t2 e2 base from w d) k (bitAnd (bitXor (getD t1 (base + k) 0) u2) kept)
   unfolding rowDiffer
-  differ-word u2 c i l = mixed-bit u1 k1 u2 k2 i ∙ ⊎-elim inside past (order x w)
+  differ-word u2 c i l =
+      bit-and (bitXor u1 u2) kept i
+      ∙ ap (λ (n : ℕ). min n (bit kept i)) (bit-xor u1 u2 i)
+      ∙ same (bit-case kept i) (a i l)
+      ∙ ap (λ (n : ℕ). min (differ (rowBit t1 base w x) (movedBit t2 from w d x)) n) (a i l)
+      ∙ masked-disagree (row-case t1 base w x) (row-case e1 base w x) (moved-case t2 from w d x) (moved-case e2 from w d x)
     where
       u1 : ℕ
       u1 = getD t1 (base + k) 0
@@ -101,67 +97,79 @@ module _ (t1 e1 t2 e2 : List ℕ) (base from w d k k1 k2 : ℕ) (b : WordOf (row
       x : ℕ
       x = k * 64 + i
 
-      inside : x < w → disagree (bit u1 i) (bit k1 i) (bit u2 i) (bit k2 i)
-          ≡ disagree (rowBit t1 base w x) (rowBit e1 base w x) (movedBit t2 from w d x) (movedBit e2 from w d x)
-      inside m = λ j. disagree (sym (row-bit t1 base w k i m l) j) (b i l j) (c i l j) (e i l j)
+      same : {n : ℕ} → Bit n → n ≡ keptBit e1 e2 base from w d x
+          → min (differ (bit u1 i) (bit u2 i)) n ≡ min (differ (rowBit t1 base w x) (movedBit t2 from w d x)) n
+      same off e = omega arith
+      same on e =
+          let b = kept-first e1 e2 base from w d x (sym e) in
+          let m = kept-partner e1 e2 base from w d x (sym e) in
+          ap₂ (λ (p q : ℕ). min (differ p q) 1) (sym (row-bit t1 base w k i b l)) (c i l (m .0) (m .1))
 
-      past : w ≤ x → disagree (bit u1 i) (bit k1 i) (bit u2 i) (bit k2 i)
-          ≡ disagree (rowBit t1 base w x) (rowBit e1 base w x) (movedBit t2 from w d x) (movedBit e2 from w d x)
-      past m =
-          let z : rowBit e1 base w x ≡ 0 = row-past e1 base w x m in
-          ap (λ (n : ℕ). disagree (bit u1 i) n (bit u2 i) (bit k2 i)) (b i l ∙ z)
-          ∙ disagree-left (bit u1 i) (bit u2 i) (bit k2 i)
-          ∙ sym (ap (λ (n : ℕ). disagree (rowBit t1 base w x) n (movedBit t2 from w d x) (movedBit e2 from w d x)) z
-          ∙ disagree-left (rowBit t1 base w x) (movedBit t2 from w d x) (movedBit e2 from w d x))
-
-  pub differ-adds : (u2 ones : ℕ) → WordOf (movedBit t2 from w d) k u2
-      → ones ≡ sum 64 (bit (bitAnd (bitXor (getD t1 (base + k) 0) u2) (bitAnd k1 k2)))
+  pub differ-adds : (u2 ones : ℕ) → MovedIn t2 from w d k u2 → ones ≡ sum 64 (bit (bitAnd (bitXor (getD t1 (base + k) 0) u2) kept))
       → Adds (rowDiffer t1 e1 t2 e2 base from w d) k (k + 1) ones
   differ-adds u2 ones c o =
-      let a = word-more (rowDiffer t1 e1 t2 e2 base from w d) k (bitAnd (bitXor (getD t1 (base + k) 0) u2) (bitAnd k1 k2)) (differ-word u2 c) in
-      omega arith
+      word-adds (rowDiffer t1 e1 t2 e2 base from w d) k (bitAnd (bitXor (getD t1 (base + k) 0) u2) kept) ones (differ-word u2 c) o
 
   -- a word of which no pixel is kept
-  none-kept : bitAnd k1 k2 ≡ 0 → WordOf (rowDiffer t1 e1 t2 e2 base from w d) k 0
+  none-kept : kept ≡ 0 → WordOf (rowDiffer t1 e1 t2 e2 base from w d) k 0
   unfolding rowDiffer
   none-kept z i l =
       let x : ℕ = k * 64 + i in
-      let m : min (bit k1 i) (bit k2 i) ≡ 0 = sym (bit-and k1 k2 i) ∙ ap (λ (v : ℕ). bit v i) z ∙ bit-zero i in
-      bit-zero i
-      ∙ sym (excluded (rowBit t1 base w x) (movedBit t2 from w d x) (bit-case (bit k1 i) (bit-lt k1 i)) (bit-case (bit k2 i) (bit-lt k2 i)) m)
-      ∙ (λ j. disagree (rowBit t1 base w x) (b i l j) (movedBit t2 from w d x) (e i l j))
+      let m : keptBit e1 e2 base from w d x ≡ 0 = sym (a i l) ∙ ap (λ (v : ℕ). bit v i) z ∙ bit-zero i in
+      bit-zero i ∙ sym (excluded (rowBit t1 base w x) (movedBit t2 from w d x) (row-case e1 base w x) (moved-case e2 from w d x) m)
 
-  pub none-adds : bitAnd k1 k2 ≡ 0 → Adds (rowDiffer t1 e1 t2 e2 base from w d) k (k + 1) 0
+  pub none-adds : kept ≡ 0 → Adds (rowDiffer t1 e1 t2 e2 base from w d) k (k + 1) 0
   none-adds z = word-none (rowDiffer t1 e1 t2 e2 base from w d) k (none-kept z)
 
--- ---- words of a moved row
+-- an interior word
+pub interior-differ : (t1 e1 t2 e2 : List ℕ) (base from w q r k j u2 k2 : ℕ) → r < 64 → Interior (w / 64) q k → j ≡ from + k + biasWords - q
+    → Joined (getD t2 j 0) (getD t2 (j - 1) 0) r u2 → Joined (getD e2 j 0) (getD e2 (j - 1) 0) r k2
+    → WordOf (rowDiffer t1 e1 t2 e2 base from w (q * 64 + r)) k (bitAnd (bitXor (getD t1 (base + k) 0) u2) (bitAnd (getD e1 (base + k) 0) k2))
+interior-differ t1 e1 t2 e2 base from w q r k j u2 k2 l n e a b =
+    let s : ℕ = k + 33554432 - q in
+    let h = n .high in
+    let o = n .low in
+    differ-word t1 e1 t2 e2 base from w (q * 64 + r) k (bitAnd (getD e1 (base + k) 0) k2)
+    (kept-left e1 e2 base from w (q * 64 + r) k (getD e1 (base + k) 0) k2 (full-word e1 base w k (omega (arith, n .here)))
+    (λ i m x. raw-moved e2 from w q r k s j (j - 1) k2 l (omega arith) (omega arith) (omega arith) (omega arith) b i m (omega arith) (omega arith)))
+    u2 (raw-moved t2 from w q r k s j (j - 1) u2 l (omega arith) (omega arith) (omega arith) (omega arith) a)
 
-pub moved-word : (words : List ℕ) (from w d k v : ℕ) → WordOf (back (rowBit words from w) d) (k + biasWords) v → WordOf (movedBit words from w d) k v
-unfolding movedBit
-moved-word words from w d k v a i l =
-    let e : (k + 33554432) * 64 + i ≡ 2147483648 + (k * 64 + i) = omega arith in
-    a i l ∙ ap (λ (x : ℕ). back (rowBit words from w) d x) e
+-- words near the right edge, for moves by less than a word
+module _ (t1 e1 t2 e2 : List ℕ) (base from w q r k k2 u2 ones : ℕ) (l : r < 64) where
+  pub end-adds : (k1 : ℕ) → q ≡ biasWords → 1 ≤ k → WordOf (rowBit e1 base w) k k1
+      → Joined (getD e2 (from + k) 0) (getD e2 (from + k - 1) 0) r k2 → Joined (getD t2 (from + k) 0) (getD t2 (from + k - 1) 0) r u2
+      → ones ≡ sum 64 (bit (bitAnd (bitXor (getD t1 (base + k) 0) u2) (bitAnd k1 k2)))
+      → Adds (rowDiffer t1 e1 t2 e2 base from w (q * 64 + r)) k (k + 1) ones
+  end-adds k1 e n b f g =
+      differ-adds t1 e1 t2 e2 base from w (q * 64 + r) k (bitAnd k1 k2)
+      (kept-left e1 e2 base from w (q * 64 + r) k k1 k2 b (λ i m x. raw-moved e2 from w q r k k (from + k) (from + k - 1) k2 l n (omega arith) refl (omega arith) f i m (omega arith) (omega arith)))
+      u2 ones (raw-moved t2 from w q r k k (from + k) (from + k - 1) u2 l n (omega arith) refl (omega arith) g)
 
--- a word whose bits from r on are those of one word, and below r the topmost of another
-joined-high : (high low r i : ℕ) → low < 2 ^ 64 → r < 64 → r ≤ i → i < 64
-    → bit (bitOr (high * 2 ^ r % 2 ^ 64) (low / 2 ^ 1 / 2 ^ (63 - r))) i ≡ bit high (i - r)
-joined-high high low r i b l m n =
-    let z : bit (low / 2 ^ 1 / 2 ^ (63 - r)) i ≡ 0 =
-    bit-shr (low / 2 ^ 1) (63 - r) i ∙ bit-shr low 1 (63 - r + i) ∙ bit-above low 64 (1 + (63 - r + i)) b (omega arith) in
-    let g : max (bit (high * 2 ^ r % 2 ^ 64) i) (bit (low / 2 ^ 1 / 2 ^ (63 - r)) i) ≡ bit (high * 2 ^ r % 2 ^ 64) i = omega arith in
-    bit-or (high * 2 ^ r % 2 ^ 64) (low / 2 ^ 1 / 2 ^ (63 - r)) i ∙ g ∙ bit-shl64-high high r i m n
+  pub last-adds : (low : ℕ) → q + 1 ≡ biasWords → w ≤ (k + 1) * 64 → WordOf (rowBit e2 from w) k low
+      → Joined 0 low r k2 → Joined 0 (getD t2 (from + k) 0) r u2
+      → ones ≡ sum 64 (bit (bitAnd (bitXor (getD t1 (base + k) 0) u2) (bitAnd (getD e1 (base + k) 0) k2)))
+      → Adds (rowDiffer t1 e1 t2 e2 base from w (q * 64 + r)) k (k + 1) ones
+  last-adds low e n b f g =
+      let z : k ≡ k + 1 - 1 = omega arith in
+      differ-adds t1 e1 t2 e2 base from w (q * 64 + r) k (bitAnd (getD e1 (base + k) 0) k2)
+      (kept-right e1 e2 base from w (q * 64 + r) k k2 (omega arith)
+      (whole-moved e2 from w q r k (k + 1) 0 low k2 l (omega arith) (omega arith)
+      (λ i m. bit-zero i ∙ sym (row-past e2 from w ((k + 1) * 64 + i) (omega arith))) (subst (λ (j : ℕ). WordOf (rowBit e2 from w) j low) z b) f))
+      u2 ones
+      (λ i m o x. joined-moved t2 from w w q r k (k + 1) 0 (getD t2 (from + k) 0) u2 l (omega arith) (omega arith)
+      (λ j p y. absurd (omega arith)) (raw-word t2 from w (k + 1 - 1) (from + k) (omega arith)) g i m x)
 
-joined-low : (high low r i : ℕ) → r < 64 → i < r
-    → bit (bitOr (high * 2 ^ r % 2 ^ 64) (low / 2 ^ 1 / 2 ^ (63 - r))) i ≡ bit low (64 - r + i)
-joined-low high low r i l m =
-    let z : bit (high * 2 ^ r % 2 ^ 64) i ≡ 0 = bit-shl64-low high r i m in
-    let s : 1 + (63 - r + i) ≡ 64 - r + i = omega arith in
-    let g : max (bit (high * 2 ^ r % 2 ^ 64) i) (bit (low / 2 ^ 1 / 2 ^ (63 - r)) i) ≡ bit (low / 2 ^ 1 / 2 ^ (63 - r)) i = omega arith in
-    bit-or (high * 2 ^ r % 2 ^ 64) (low / 2 ^ 1 / 2 ^ (63 - r)) i ∙ g
-    ∙ bit-shr (low / 2 ^ 1) (63 - r) i ∙ bit-shr low 1 (63 - r + i) ∙ ap (λ (j : ℕ). bit low j) s
-
-pub joined-is : (high low r : ℕ) → low < 2 ^ 64 → r < 64 → Joined high low r (bitOr (high * 2 ^ r % 2 ^ 64) (low / 2 ^ 1 / 2 ^ (63 - r)))
-joined-is high low r b l = record { above = λ i m n. joined-high high low r i b l m n; below = λ i m. joined-low high low r i l m }
+  pub next-adds : (high : ℕ) → q + 1 ≡ biasWords → (k + 1) * 64 ≤ w → WordOf (rowBit e2 from w) (k + 1) high
+      → Joined high (getD e2 (from + k) 0) r k2 → Joined (getD t2 (from + k + 1) 0) (getD t2 (from + k) 0) r u2
+      → ones ≡ sum 64 (bit (bitAnd (bitXor (getD t1 (base + k) 0) u2) (bitAnd (getD e1 (base + k) 0) k2)))
+      → Adds (rowDiffer t1 e1 t2 e2 base from w (q * 64 + r)) k (k + 1) ones
+  next-adds high e n b f g =
+      let z : k ≡ k + 1 - 1 = omega arith in
+      differ-adds t1 e1 t2 e2 base from w (q * 64 + r) k (bitAnd (getD e1 (base + k) 0) k2)
+      (kept-right e1 e2 base from w (q * 64 + r) k k2 (omega arith)
+      (whole-moved e2 from w q r k (k + 1) high (getD e2 (from + k) 0) k2 l (omega arith) (omega arith)
+      b (subst (λ (j : ℕ). WordOf (rowBit e2 from w) j (getD e2 (from + k) 0)) z (full-word e2 from w k n)) f))
+      u2 ones (raw-moved t2 from w q r k (k + 1) (from + k + 1) (from + k) u2 l (omega arith) (omega arith) (omega arith) (omega arith) g)
 
 -- the interior of a moved row
 first-in : (q first end : ℕ) → first ≡ min end (max (q + 1) biasWords - biasWords) → (first ≤ end) × ((k : ℕ) → first ≤ k → k < end → q + 1 ≤ k + biasWords)
@@ -171,77 +179,32 @@ end-in : (full q end : ℕ) → end ≡ min full (max (q + full) biasWords - bia
     → (end ≤ full) × ((k : ℕ) → k < end → k + biasWords < q + full)
 end-in full q end e = (omega arith, λ k m. omega arith)
 
+rest-in : (first rest end : ℕ) → first ≤ end → rest ≡ end - (end - first) % 7 → ((first ≤ rest) × ((rest - first) % 7 ≡ 0)) × (rest ≤ end)
+rest-in first rest end l e = ((omega arith, omega arith), omega arith)
+
 pub full-le : (w : ℕ) → w / 64 ≤ rowWords w
 unfolding rowWords
 full-le w = omega arith
 
 pub moves : (m : Move) (d : ℕ) → m .w ≤ 4096 → m .n ≡ rowWords (m .w) → m .r ≡ d % 64
     → m .end ≡ min (m .w / 64) (max (m .q + m .w / 64) biasWords - biasWords) → m .first ≡ min (m .end) (max (m .q + 1) biasWords - biasWords)
+    → m .rest ≡ m .end - (m .end - m .first) % 7
     → Moves m
-moves m d b e r f g =
+moves m d b e r f g h =
     let s = first-in (m .q) (m .first) (m .end) g in
     let t = end-in (m .w / 64) (m .q) (m .end) f in
     let u = t .0 in
     let v = full-le (m .w) in
+    let o = rest-in (m .first) (m .rest) (m .end) (s .0) h in
     record {
       width = b;
       row = e;
       bits = rw r (mod-lt d (omega arith));
-      ordered = s .0;
+      sevens = o .0;
+      rests = o .1;
       ends = le-trans u (rw (← e) at v);
       inside = λ k l n. record { here = lt-of-lt-of-le n u; low = s .1 k l n; high = t .1 k n };
     }
-
--- an interior word of a moved row
-pub interior-word : (words : List ℕ) (from w q r k j v : ℕ) → r < 64 → Interior (w / 64) q k → j ≡ from + k + biasWords - q
-    → Joined (getD words j 0) (getD words (j - 1) 0) r v → WordOf (movedBit words from w (q * 64 + r)) k v
-unfolding movedBit
-interior-word words from w q r k j v l n e a i m = ⊎-elim below above (order i r)
-  where
-    s : ℕ
-    s = k + 33554432 - q
-
-    above : r ≤ i → bit v i ≡ back (rowBit words from w) (q * 64 + r) (2147483648 + (k * 64 + i))
-    above g =
-        let p : j ≡ from + s = omega arith in
-        a .above i g m
-        ∙ ap (λ (x : ℕ). bit (getD words x 0) (i - r)) p
-        ∙ full-word words from w s (omega arith) (i - r) (omega arith)
-        ∙ sym (back-at (rowBit words from w) (q * 64 + r) (s * 64 + (i - r)) (2147483648 + (k * 64 + i)) (omega arith))
-
-    below : i < r → bit v i ≡ back (rowBit words from w) (q * 64 + r) (2147483648 + (k * 64 + i))
-    below g =
-        let p : j - 1 ≡ from + (s - 1) = omega arith in
-        a .below i g
-        ∙ ap (λ (x : ℕ). bit (getD words x 0) (64 - r + i)) p
-        ∙ full-word words from w (s - 1) (omega arith) (64 - r + i) (omega arith)
-        ∙ sym (back-at (rowBit words from w) (q * 64 + r) ((s - 1) * 64 + (64 - r + i)) (2147483648 + (k * 64 + i)) (omega arith))
-
--- a full row's first word, moved to the right, and last word, moved to the left, with no word beside it
-pub first-moved : (words : List ℕ) (from w q r k : ℕ) → q ≡ k + biasWords → 64 ≤ w
-    → WordOf (movedBit words from w (q * 64 + r)) k (getD words from 0 * 2 ^ r % 2 ^ 64)
-first-moved words from w q r k e l =
-    moved-word words from w (q * 64 + r) k (getD words from 0 * 2 ^ r % 2 ^ 64)
-    (moved-first (rowBit words from w) (k + biasWords) q r (getD words from 0) e
-    (λ i m. ap (λ (b : ℕ). bit (getD words b 0) i) (sym (add-zero from)) ∙ full-word words from w 0 (omega arith) i m))
-
-pub last-moved : (words : List ℕ) (from w q r k : ℕ) → q + 1 ≡ biasWords → (k + 1) * 64 ≡ w → r < 64 → getD words (from + k) 0 < 2 ^ 64
-    → WordOf (movedBit words from w (q * 64 + r)) k (getD words (from + k) 0 / 2 ^ 1 / 2 ^ (63 - r))
-unfolding movedBit
-last-moved words from w q r k e f l b i m =
-    bit-shr (u / 2 ^ 1) (63 - r) i ∙ bit-shr u 1 (63 - r + i) ∙ ⊎-elim below above (order i r)
-    ∙ sym (back-at (rowBit words from w) (q * 64 + r) (k * 64 + (1 + (63 - r + i))) (2147483648 + (k * 64 + i)) (omega arith))
-  where
-    u : ℕ
-    u = getD words (from + k) 0
-
-    below : i < r → bit u (1 + (63 - r + i)) ≡ rowBit words from w (k * 64 + (1 + (63 - r + i)))
-    below g = full-word words from w k (omega arith) (1 + (63 - r + i)) (omega arith)
-
-    above : r ≤ i → bit u (1 + (63 - r + i)) ≡ rowBit words from w (k * 64 + (1 + (63 - r + i)))
-    above g =
-        bit-above u 64 (1 + (63 - r + i)) b (omega arith)
-        ∙ sym (row-past words from w (k * 64 + (1 + (63 - r + i))) (omega arith))
 
 -- ---- rows and frames
 
@@ -251,12 +214,6 @@ rowDiffer-lt t1 e1 t2 e2 base from w d x = disagree-lt (rowBit t1 base w x) (row
 
 pub movedDiffer-lt : (t1 e1 t2 e2 : List ℕ) (base from : ℕ) (m : Move) (x : ℕ) → movedDiffer t1 e1 t2 e2 base from m x < 2
 movedDiffer-lt t1 e1 t2 e2 base from m x = rowDiffer-lt t1 e1 t2 e2 base from (m .w) (m .q * 64 + m .r) x
-
-pub rowDiffer-past : (t1 e1 t2 e2 : List ℕ) (base from w d x : ℕ) → w ≤ x → rowDiffer t1 e1 t2 e2 base from w d x ≡ 0
-unfolding rowDiffer
-rowDiffer-past t1 e1 t2 e2 base from w d x l =
-    ap (λ (n : ℕ). disagree (rowBit t1 base w x) n (movedBit t2 from w d x) (movedBit e2 from w d x)) (row-past e1 base w x l)
-    ∙ disagree-left (rowBit t1 base w x) (movedBit t2 from w d x) (movedBit e2 from w d x)
 
 within-none : (n : ℕ) (z : ℤ) → within n z (λ k. 0) ≡ 0
 unfolding within

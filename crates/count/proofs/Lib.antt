@@ -2,5 +2,7 @@
 pub mod Table
 pub mod OnesLaws
 pub mod RowLaws
+pub mod AdderLaws
+pub mod MovedLaws
 pub mod DifferLaws
 pub mod AnswerLaws

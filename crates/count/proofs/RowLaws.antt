@@ -29,9 +29,33 @@ adds-none f first = add-zero (sum (first * 64) f)
 pub adds-more : (f : ℕ → ℕ) (first k end count more : ℕ) → Adds f first k count → Adds f k end more → Adds f first end (count + more)
 adds-more f first k end count more a b = omega arith
 
+pub word-adds : (f : ℕ → ℕ) (k v ones : ℕ) → WordOf f k v → ones ≡ sum 64 (bit v) → Adds f k (k + 1) ones
+word-adds f k v ones d e = rw (← e) at (word-more f k v d)
+
 pub word-next : (f : ℕ → ℕ) (first k count v ones : ℕ) → Adds f first k count → WordOf f k v → ones ≡ sum 64 (bit v)
     → Adds f first (k + 1) (count + ones)
-word-next f first k count v ones a d e = adds-more f first k (k + 1) count ones a (rw (← e) at (word-more f k v d))
+word-next f first k count v ones a d e = adds-more f first k (k + 1) count ones a (word-adds f k v ones d e)
+
+-- seven words more
+pub seven-adds : (f : ℕ → ℕ) (k a b c d e g h ones : ℕ)
+    → WordOf f k a → WordOf f (k + 1) b → WordOf f (k + 2) c → WordOf f (k + 3) d → WordOf f (k + 4) e → WordOf f (k + 5) g → WordOf f (k + 6) h
+    → ones ≡ sum 64 (bit a) + sum 64 (bit b) + sum 64 (bit c) + sum 64 (bit d) + sum 64 (bit e) + sum 64 (bit g) + sum 64 (bit h)
+    → Adds f k (k + 7) ones
+seven-adds f k a b c d e g h ones p0 p1 p2 p3 p4 p5 p6 o =
+    omega (
+      arith,
+      o,
+      word-to k (k + 1) a (omega arith) p0,
+      word-to (k + 1) (k + 2) b (omega arith) p1,
+      word-to (k + 2) (k + 3) c (omega arith) p2,
+      word-to (k + 3) (k + 4) d (omega arith) p3,
+      word-to (k + 4) (k + 5) e (omega arith) p4,
+      word-to (k + 5) (k + 6) g (omega arith) p5,
+      word-to (k + 6) (k + 7) h (omega arith) p6,
+    )
+  where
+    word-to : (k end v : ℕ) → end ≡ k + 1 → WordOf f k v → Adds f k end (sum 64 (bit v))
+    word-to k end v l p = rw l (word-more f k v p)
 
 -- a word that adds nothing
 pub word-none : (f : ℕ → ℕ) (k : ℕ) → WordOf f k 0 → Adds f k (k + 1) 0
@@ -61,9 +85,9 @@ ones-le v = bits-le 64 (bit v) (bit-lt v)
 pub adds-le : (f : ℕ → ℕ) (first end count : ℕ) → ((i : ℕ) → f i < 2) → Adds f first end count → count ≤ end * 64
 adds-le f first end count b a = let c = bits-le (end * 64) f b in omega arith
 
-pub adds-next-le : (f : ℕ → ℕ) (first k count more : ℕ) → ((i : ℕ) → f i < 2) → Adds f first k count → Adds f k (k + 1) more
-    → count + more ≤ (k + 1) * 64
-adds-next-le f first k count more b p q = adds-le f first (k + 1) (count + more) b (adds-more f first k (k + 1) count more p q)
+pub adds-next-le : (f : ℕ → ℕ) (first k end count more : ℕ) → ((i : ℕ) → f i < 2) → Adds f first k count → Adds f k end more
+    → count + more ≤ end * 64
+adds-next-le f first k end count more b p q = adds-le f first end (count + more) b (adds-more f first k end count more p q)
 
 pub rows-le : (f : ℕ → ℕ) (y : ℕ) → ((z : ℕ) → f z ≤ 4096) → sum y f ≤ y * 4096
 rows-le f y b = sum-le y 4096 f (λ z l. b z)
@@ -72,6 +96,10 @@ rows-le f y b = sum-le y 4096 f (λ z l. b z)
 pub row-words-le : (w : ℕ) → w ≤ 4096 → rowWords w ≤ 64
 unfolding rowWords
 row-words-le w l = omega arith
+
+pub row-words-all : (w : ℕ) → (w ≤ rowWords w * 64) × (rowWords w * 64 < w + 64)
+unfolding rowWords
+row-words-all w = (omega arith, omega arith)
 
 pub row-room : (n w h y room : ℕ) → n ≡ rowWords w → rowWords w * h ≤ room → y < h → y * n + rowWords w ≤ room
 row-room n w h y room e r l = let a = row-fits (rowWords w) h y l in let b = ap (λ (m : ℕ). y * m) e in omega arith

@@ -2,7 +2,7 @@
 use mathlib.Core.Path.{_≡_}
 use mathlib.Core.Bool.{_&&_, not}
 use mathlib.Core.List.{List}
-use Prim.Native.Nat.{ℕ, _+_, _*_, _-_, _/_, _≤_, _<_}
+use Prim.Native.Nat.{ℕ, _+_, _*_, _-_, _/_, _%_, _≤_, _<_}
 use lib.Dec.{ltb, eqb}
 use lib.ListN.{length}
 use lib.IntN.{ℤ}
@@ -47,12 +47,13 @@ pub record Interior (full q k : ℕ) : Type 0 where
   pub low : q + 1 ≤ k + biasWords
   pub high : k + biasWords < q + full
 
--- a move as `differences` works it out: its words from `first` up to `end` are interior
+-- a move as `differences` works it out: its words from `first` up to `end` are interior, those up to `rest` in blocks of seven
 pub record Moves (m : Move) : Type 0 where
   pub width : m .w ≤ maxSide
   pub row : m .n ≡ rowWords (m .w)
   pub bits : m .r < wordBits
-  pub ordered : m .first ≤ m .end
+  pub sevens : (m .first ≤ m .rest) × ((m .rest - m .first) % 7 ≡ 0)
+  pub rests : m .rest ≤ m .end
   pub ends : m .end ≤ m .n
   pub inside : (k : ℕ) → m .first ≤ k → k < m .end → Interior (m .w / wordBits) (m .q) k
 

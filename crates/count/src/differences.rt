@@ -1,6 +1,7 @@
 // The difference count of two frames' packed bitmaps. The second frame's rows are moved word by word
 // on reading.
 
+use crate::adder::seven_ones;
 use crate::ones::word_ones;
 use refusals::row_words;
 use words::biased;
@@ -13,7 +14,7 @@ ghost use Rattle.rules.specs.Limits.{maxSide, wordBits};
 ghost use Rattle.rules.specs.Sums.{sum};
 ghost use Rattle.rules.specs.Differences.{difference};
 ghost use Rattle.rules.specs.Calls.{planesOf};
-ghost use Rattle.words.specs.Rows.{biasWords};
+ghost use Rattle.words.specs.Rows.{WordOf, biasWords};
 ghost use Rattle.count.specs.Ones.{CountsOnes};
 ghost use Rattle.count.specs.Rows.{Adds, movedDiffer, lineDiffer, Moves, RowsIn, FramesIn, Joined};
 
@@ -27,13 +28,14 @@ const BIAS_WORDS: usize = 33554432;
 
 // A move of rows of w pixels, in n words, by q words, counted from the bias, and r bits. A word from
 // `first` up to `end` is interior: it is made of two words of the row, all three of them full, and so
-// needs no test and no mask.
+// needs no test and no mask. Up to `rest` they go in blocks of seven.
 pub struct Move {
     pub w: usize,
     pub n: usize,
     pub q: usize,
     pub r: usize,
     pub first: usize,
+    pub rest: usize,
     pub end: usize,
 }
 
@@ -59,27 +61,50 @@ fn move_by(w: usize, d: usize) -> Move
     let full = w / WORD_BITS;
     let end = lower(full, upper(q + full, BIAS_WORDS) - BIAS_WORDS);
     let first = lower(end, upper(q + 1, BIAS_WORDS) - BIAS_WORDS);
+    let rest = end - (end - first) % 7;
     Move {
         w,
         n,
         q,
         r: d % WORD_BITS,
         first,
+        rest,
         end,
     }
 }
 
-// The bits of word j moved up by r, below them the topmost r bits of the word before it. (Two steps
+// The bits of one word moved up by r, below them the topmost r bits of the word before it. (Two steps
 // down, since the machine moves by less than 64.)
-fn joined_word(src: &[u64], j: usize, r: usize) -> u64
-    requires bits { ⌜ r < wordBits ⌝ }
-    requires here { ⌜ (1 ≤ j) × (j < length (now src)) ⌝ }
-    ensures { λ v. ⌜ Joined (getD (now (src .entry)) j 0) (getD (now (src .entry)) (j - 1) 0) r v ⌝ }
+fn joined_word(high: u64, low: u64, r: usize) -> u64
+    requires { ⌜ r < wordBits ⌝ }
+    ensures { λ v. ⌜ Joined high low r v ⌝ }
 {
-    (src[j] << r) | ((src[j - 1] >> 1) >> (63 - r))
+    (high << r) | ((low >> 1) >> (63 - r))
 }
 
-// One interior word. A word with no kept pixel is left before its threshold bits are read.
+// The pixels of interior word k at which the two rows differ.
+fn differing_word(
+    t1: &[u64],
+    e1: &[u64],
+    t2: &[u64],
+    e2: &[u64],
+    base: usize,
+    from: usize,
+    m: Move,
+    k: usize,
+) -> u64
+    requires moves { ⌜ Moves m ⌝ }
+    requires here { ⌜ (m .first ≤ k) × (k < m .end) ⌝ }
+    requires rows { ⌜ RowsIn (now t1) (now e1) (now t2) (now e2) base from (m .w) ⌝ }
+    ensures { λ v. ⌜ WordOf (movedDiffer (now (t1 .entry)) (now (e1 .entry)) (now (t2 .entry)) (now (e2 .entry)) base from m) k v ⌝ }
+{
+    let i = base + k;
+    let j = from + k + BIAS_WORDS - m.q;
+    let kept = e1[i] & joined_word(e2[j], e2[j - 1], m.r);
+    (t1[i] ^ joined_word(t2[j], t2[j - 1], m.r)) & kept
+}
+
+// One interior word. A word with no difference is left before the look-ups.
 fn interior_word(
     t1: &[u64],
     e1: &[u64],
@@ -97,13 +122,41 @@ fn interior_word(
     requires table { ⌜ CountsOnes (now ones) ⌝ }
     ensures { λ r. ⌜ Adds (movedDiffer (now (t1 .entry)) (now (e1 .entry)) (now (t2 .entry)) (now (e2 .entry)) base from m) k (k + 1) r ⌝ }
 {
-    let i = base + k;
-    let j = from + k + BIAS_WORDS - m.q;
-    let kept = e1[i] & joined_word(e2, j, m.r);
-    if kept == 0 {
+    let v = differing_word(t1, e1, t2, e2, base, from, m, k);
+    if v == 0 {
         return 0;
     }
-    word_ones((t1[i] ^ joined_word(t2, j, m.r)) & kept, ones)
+    word_ones(v, ones)
+}
+
+// Seven interior words, from k on.
+fn interior_block(
+    t1: &[u64],
+    e1: &[u64],
+    t2: &[u64],
+    e2: &[u64],
+    base: usize,
+    from: usize,
+    m: Move,
+    k: usize,
+    ones: &[u8; 256],
+) -> u32
+    requires moves { ⌜ Moves m ⌝ }
+    requires here { ⌜ (m .first ≤ k) × (k + 7 ≤ m .end) ⌝ }
+    requires rows { ⌜ RowsIn (now t1) (now e1) (now t2) (now e2) base from (m .w) ⌝ }
+    requires table { ⌜ CountsOnes (now ones) ⌝ }
+    ensures { λ r. ⌜ Adds (movedDiffer (now (t1 .entry)) (now (e1 .entry)) (now (t2 .entry)) (now (e2 .entry)) base from m) k (k + 7) r ⌝ }
+{
+    seven_ones(
+        differing_word(t1, e1, t2, e2, base, from, m, k),
+        differing_word(t1, e1, t2, e2, base, from, m, k + 1),
+        differing_word(t1, e1, t2, e2, base, from, m, k + 2),
+        differing_word(t1, e1, t2, e2, base, from, m, k + 3),
+        differing_word(t1, e1, t2, e2, base, from, m, k + 4),
+        differing_word(t1, e1, t2, e2, base, from, m, k + 5),
+        differing_word(t1, e1, t2, e2, base, from, m, k + 6),
+        ones,
+    )
 }
 
 // One word near a row's edge.
@@ -158,7 +211,33 @@ fn first_word(
     word_ones((t1[i] ^ (t2[from] << m.r)) & kept, ones)
 }
 
-// The row's last word, if full, moved by at most a word to the left: no word stands after it.
+// The row's last word, not its first, moved by less than a word to the right: partners lie to the left,
+// so that only the first frame's word can have bits past w.
+fn end_word(
+    t1: &[u64],
+    e1: &[u64],
+    t2: &[u64],
+    e2: &[u64],
+    base: usize,
+    from: usize,
+    m: Move,
+    k: usize,
+    ones: &[u8; 256],
+) -> u32
+    requires moves { ⌜ Moves m ⌝ }
+    requires here { ⌜ (m .q ≡ biasWords) × ((1 ≤ k) × (k + 1 ≡ m .n)) ⌝ }
+    requires rows { ⌜ RowsIn (now t1) (now e1) (now t2) (now e2) base from (m .w) ⌝ }
+    requires table { ⌜ CountsOnes (now ones) ⌝ }
+    ensures { λ r. ⌜ Adds (movedDiffer (now (t1 .entry)) (now (e1 .entry)) (now (t2 .entry)) (now (e2 .entry)) base from m) k (k + 1) r ⌝ }
+{
+    let i = base + k;
+    let j = from + k;
+    let kept = row_word(e1, base, m.w, k) & joined_word(e2[j], e2[j - 1], m.r);
+    word_ones((t1[i] ^ joined_word(t2[j], t2[j - 1], m.r)) & kept, ones)
+}
+
+// The row's last word moved by at most a word to the left: no word stands after it. Partners lie to the
+// right, so that a mask on the second frame's word is enough.
 fn last_word(
     t1: &[u64],
     e1: &[u64],
@@ -171,15 +250,90 @@ fn last_word(
     ones: &[u8; 256],
 ) -> u32
     requires moves { ⌜ Moves m ⌝ }
-    requires here { ⌜ (m .q + 1 ≡ biasWords) × ((k + 1) * wordBits ≡ m .w) ⌝ }
+    requires here { ⌜ (m .q + 1 ≡ biasWords) × (k + 1 ≡ m .n) ⌝ }
+    requires rows { ⌜ RowsIn (now t1) (now e1) (now t2) (now e2) base from (m .w) ⌝ }
+    requires table { ⌜ CountsOnes (now ones) ⌝ }
+    ensures { λ r. ⌜ Adds (movedDiffer (now (t1 .entry)) (now (e1 .entry)) (now (t2 .entry)) (now (e2 .entry)) base from m) k (k + 1) r ⌝ }
+{
+    let i = base + k;
+    let kept = e1[i] & joined_word(0, row_word(e2, from, m.w, k), m.r);
+    word_ones((t1[i] ^ joined_word(0, t2[from + k], m.r)) & kept, ones)
+}
+
+// The word before the row's last one, likewise.
+fn next_to_last(
+    t1: &[u64],
+    e1: &[u64],
+    t2: &[u64],
+    e2: &[u64],
+    base: usize,
+    from: usize,
+    m: Move,
+    k: usize,
+    ones: &[u8; 256],
+) -> u32
+    requires moves { ⌜ Moves m ⌝ }
+    requires here { ⌜ (m .q + 1 ≡ biasWords) × (k + 2 ≡ m .n) ⌝ }
     requires rows { ⌜ RowsIn (now t1) (now e1) (now t2) (now e2) base from (m .w) ⌝ }
     requires table { ⌜ CountsOnes (now ones) ⌝ }
     ensures { λ r. ⌜ Adds (movedDiffer (now (t1 .entry)) (now (e1 .entry)) (now (t2 .entry)) (now (e2 .entry)) base from m) k (k + 1) r ⌝ }
 {
     let i = base + k;
     let j = from + k;
-    let kept = e1[i] & ((e2[j] >> 1) >> (63 - m.r));
-    word_ones((t1[i] ^ ((t2[j] >> 1) >> (63 - m.r))) & kept, ones)
+    let kept = e1[i] & joined_word(row_word(e2, from, m.w, k + 1), e2[j], m.r);
+    word_ones((t1[i] ^ joined_word(t2[j + 1], t2[j], m.r)) & kept, ones)
+}
+
+// A row's interior words up to `rest`.
+fn interior_blocks(
+    t1: &[u64],
+    e1: &[u64],
+    t2: &[u64],
+    e2: &[u64],
+    base: usize,
+    from: usize,
+    m: Move,
+    ones: &[u8; 256],
+) -> u32
+    requires moves { ⌜ Moves m ⌝ }
+    requires rows { ⌜ RowsIn (now t1) (now e1) (now t2) (now e2) base from (m .w) ⌝ }
+    requires table { ⌜ CountsOnes (now ones) ⌝ }
+    ensures { λ r. ⌜ Adds (movedDiffer (now (t1 .entry)) (now (e1 .entry)) (now (t2 .entry)) (now (e2 .entry)) base from m) (m .first) (m .rest) r ⌝ }
+{
+    let mut count: u32 = 0;
+    let mut k = m.first;
+    let rest = m.rest;
+    while k < rest {
+        count += interior_block(t1, e1, t2, e2, base, from, m, k, ones);
+        k += 7;
+    }
+    count
+}
+
+// The fewer than seven that are left.
+fn interior_rest(
+    t1: &[u64],
+    e1: &[u64],
+    t2: &[u64],
+    e2: &[u64],
+    base: usize,
+    from: usize,
+    m: Move,
+    ones: &[u8; 256],
+) -> u32
+    requires moves { ⌜ Moves m ⌝ }
+    requires rows { ⌜ RowsIn (now t1) (now e1) (now t2) (now e2) base from (m .w) ⌝ }
+    requires table { ⌜ CountsOnes (now ones) ⌝ }
+    ensures { λ r. ⌜ Adds (movedDiffer (now (t1 .entry)) (now (e1 .entry)) (now (t2 .entry)) (now (e2 .entry)) base from m) (m .rest) (m .end) r ⌝ }
+{
+    let mut count: u32 = 0;
+    let mut k = m.rest;
+    let end = m.end;
+    while k < end {
+        count += interior_word(t1, e1, t2, e2, base, from, m, k, ones);
+        k += 1;
+    }
+    count
 }
 
 // A row's interior words.
@@ -198,14 +352,8 @@ fn interior(
     requires table { ⌜ CountsOnes (now ones) ⌝ }
     ensures { λ r. ⌜ Adds (movedDiffer (now (t1 .entry)) (now (e1 .entry)) (now (t2 .entry)) (now (e2 .entry)) base from m) (m .first) (m .end) r ⌝ }
 {
-    let mut count: u32 = 0;
-    let mut k = m.first;
-    let end = m.end;
-    while k < end {
-        count += interior_word(t1, e1, t2, e2, base, from, m, k, ones);
-        k += 1;
-    }
-    count
+    interior_blocks(t1, e1, t2, e2, base, from, m, ones)
+        + interior_rest(t1, e1, t2, e2, base, from, m, ones)
 }
 
 // The words of a row from `first` up to `end`.
@@ -261,7 +409,34 @@ fn left_edge(
     careful(t1, e1, t2, e2, base, from, m, 0, m.first, ones)
 }
 
-// The words after the interior, likewise.
+// The words after the interior of a row moved by at most a word to the left: the last one or two.
+fn last_words(
+    t1: &[u64],
+    e1: &[u64],
+    t2: &[u64],
+    e2: &[u64],
+    base: usize,
+    from: usize,
+    m: Move,
+    ones: &[u8; 256],
+) -> u32
+    requires moves { ⌜ Moves m ⌝ }
+    requires here { ⌜ (m .q + 1 ≡ biasWords) × (m .end < m .n) ⌝ }
+    requires rows { ⌜ RowsIn (now t1) (now e1) (now t2) (now e2) base from (m .w) ⌝ }
+    requires table { ⌜ CountsOnes (now ones) ⌝ }
+    ensures { λ r. ⌜ Adds (movedDiffer (now (t1 .entry)) (now (e1 .entry)) (now (t2 .entry)) (now (e2 .entry)) base from m) (m .end) (m .n) r ⌝ }
+{
+    if m.end + 1 == m.n {
+        return last_word(t1, e1, t2, e2, base, from, m, m.end, ones);
+    }
+    if m.end + 2 == m.n {
+        return next_to_last(t1, e1, t2, e2, base, from, m, m.end, ones)
+            + last_word(t1, e1, t2, e2, base, from, m, m.end + 1, ones);
+    }
+    careful(t1, e1, t2, e2, base, from, m, m.end, m.n, ones)
+}
+
+// The words after the interior: none, those of a move by less than a word, or any.
 fn right_edge(
     t1: &[u64],
     e1: &[u64],
@@ -280,8 +455,11 @@ fn right_edge(
     if m.end == m.n {
         return 0;
     }
-    if m.end + 1 == m.n && m.q == BIAS_WORDS - 1 && m.n * WORD_BITS == m.w {
-        return last_word(t1, e1, t2, e2, base, from, m, m.end, ones);
+    if m.q == BIAS_WORDS - 1 {
+        return last_words(t1, e1, t2, e2, base, from, m, ones);
+    }
+    if m.q == BIAS_WORDS && m.end + 1 == m.n && 0 < m.end {
+        return end_word(t1, e1, t2, e2, base, from, m, m.end, ones);
     }
     careful(t1, e1, t2, e2, base, from, m, m.end, m.n, ones)
 }

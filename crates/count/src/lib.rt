@@ -1,5 +1,6 @@
 // Counts over packed bitmaps: a bitmap's total, and the difference count of two frames.
 
+pub mod adder;
 pub mod differences;
 pub mod ones;
 pub mod totals;

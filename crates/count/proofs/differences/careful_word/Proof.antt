@@ -1,9 +1,11 @@
 -- The masked words are the rows' pixels; without a kept pixel nothing differs.
 use Prim.Native.Nat.{_+_, _*_, _<_}
 use native.Mathlib.Omega.{arith}
+use lib.Bits.{bitAnd}
 use borrow.Author.Needs.{needs}
 use Rattle.count.proofs.RowLaws.{row-words-le}
-use Rattle.count.proofs.DifferLaws.{none-adds, differ-adds, moved-word}
+use Rattle.count.proofs.MovedLaws.{moved-word, kept-left}
+use Rattle.count.proofs.DifferLaws.{none-adds, differ-adds}
 use Rattle.count.proofs.differences.careful_word.Statement.{statement}
 use Rattle.count.proofs.differences.careful_word.Tie as tie
 
@@ -25,8 +27,10 @@ returns c =
     let d = a .m .q * 64 + a .m .r in
     let r = c .before .before .row-word in
     let v = c .before .moved-word in
-    none-adds (a .t1 .now) (a .e1 .now) (a .t2 .now) (a .e2 .now) (a .base) (a .from) (a .m .w) d (a .k) (r .result) (v .result) (r .ensures)
-    (moved-word (a .e2 .now) (a .from) (a .m .w) d (a .k) (v .result) (v .ensures)) (c .if1 .taken)
+    let e = moved-word (a .e2 .now) (a .from) (a .m .w) d (a .k) (v .result) (v .ensures) in
+    none-adds (a .t1 .now) (a .e1 .now) (a .t2 .now) (a .e2 .now) (a .base) (a .from) (a .m .w) d (a .k) (bitAnd (r .result) (v .result))
+    (kept-left (a .e1 .now) (a .e2 .now) (a .base) (a .from) (a .m .w) d (a .k) (r .result) (v .result) (r .ensures) (λ i l m. e i l))
+    (c .if1 .taken)
 
 add-word-ones : tie.Need-add-word-ones
 add-word-ones c = search needs
@@ -52,9 +56,11 @@ returns-2 c =
     let r = b .before .row-word in
     let v = b .moved-word in
     let u = c .before .moved-word2 in
-    differ-adds (a .t1 .now) (a .e1 .now) (a .t2 .now) (a .e2 .now) (a .base) (a .from) (a .m .w) d (a .k) (r .result) (v .result) (r .ensures)
-    (moved-word (a .e2 .now) (a .from) (a .m .w) d (a .k) (v .result) (v .ensures)) (u .result) (c .word-ones .result)
-    (moved-word (a .t2 .now) (a .from) (a .m .w) d (a .k) (u .result) (u .ensures)) (c .word-ones .ensures)
+    let e = moved-word (a .e2 .now) (a .from) (a .m .w) d (a .k) (v .result) (v .ensures) in
+    let t = moved-word (a .t2 .now) (a .from) (a .m .w) d (a .k) (u .result) (u .ensures) in
+    differ-adds (a .t1 .now) (a .e1 .now) (a .t2 .now) (a .e2 .now) (a .base) (a .from) (a .m .w) d (a .k) (bitAnd (r .result) (v .result))
+    (kept-left (a .e1 .now) (a .e2 .now) (a .base) (a .from) (a .m .w) d (a .k) (r .result) (v .result) (r .ensures) (λ i l m. e i l))
+    (u .result) (c .word-ones .result) (λ i l m n. t i l) (c .word-ones .ensures)
 
 pub careful-word-spec : {M : Type 1} → statement M
 careful-word-spec =

@@ -2,9 +2,11 @@
 use Prim.Native.Nat.{_+_, _*_, _%_, _^_}
 use native.Mathlib.Omega.{arith}
 use lib.ListN.{getD}
+use lib.Bits.{bitAnd}
 use borrow.Author.Needs.{needs}
 use Rattle.count.proofs.RowLaws.{full-word}
-use Rattle.count.proofs.DifferLaws.{full-le, differ-adds, first-moved}
+use Rattle.count.proofs.MovedLaws.{first-moved, kept-left}
+use Rattle.count.proofs.DifferLaws.{full-le, differ-adds}
 use Rattle.count.proofs.differences.first_word.Statement.{statement}
 use Rattle.count.proofs.differences.first_word.Tie as tie
 
@@ -48,12 +50,15 @@ returns : tie.Need-returns
 returns c =
     let s = c .before .before .before .before .before .before .before .before .before in
     let a = s .args in
-    differ-adds (a .t1 .now) (a .e1 .now) (a .t2 .now) (a .e2 .now) (a .base) (a .from) (a .m .w) (a .m .q * 64 + a .m .r) (a .k) (getD (a .e1 .now) (a .base + a .k) 0) (getD (a .e2 .now) (a .from) 0 * 2 ^ a .m .r % 2 ^ 64)
-    (full-word (a .e1 .now) (a .base) (a .m .w) (a .k) (s .pre .1 .0 .1))
-    (first-moved (a .e2 .now) (a .from) (a .m .w) (a .m .q) (a .m .r) (a .k) (s .pre .1 .0 .0) (omega (arith, s .pre .1 .0 .1)))
-    (getD (a .t2 .now) (a .from) 0 * 2 ^ a .m .r % 2 ^ 64) (c .word-ones .result)
-    (first-moved (a .t2 .now) (a .from) (a .m .w) (a .m .q) (a .m .r) (a .k) (s .pre .1 .0 .0) (omega (arith, s .pre .1 .0 .1)))
-    (c .word-ones .ensures)
+    let d = a .m .q * 64 + a .m .r in
+    let k1 = getD (a .e1 .now) (a .base + a .k) 0 in
+    let k2 = getD (a .e2 .now) (a .from) 0 * 2 ^ a .m .r % 2 ^ 64 in
+    let u2 = getD (a .t2 .now) (a .from) 0 * 2 ^ a .m .r % 2 ^ 64 in
+    let e = first-moved (a .e2 .now) (a .from) (a .m .w) (a .m .q) (a .m .r) (a .k) (s .pre .1 .0 .0) (omega (arith, s .pre .1 .0 .1)) in
+    let t = first-moved (a .t2 .now) (a .from) (a .m .w) (a .m .q) (a .m .r) (a .k) (s .pre .1 .0 .0) (omega (arith, s .pre .1 .0 .1)) in
+    differ-adds (a .t1 .now) (a .e1 .now) (a .t2 .now) (a .e2 .now) (a .base) (a .from) (a .m .w) d (a .k) (bitAnd k1 k2)
+    (kept-left (a .e1 .now) (a .e2 .now) (a .base) (a .from) (a .m .w) d (a .k) k1 k2 (full-word (a .e1 .now) (a .base) (a .m .w) (a .k) (s .pre .1 .0 .1)) (λ i l m. e i l))
+    u2 (c .word-ones .result) (λ i l m n. t i l) (c .word-ones .ensures)
 
 pub first-word-spec : {M : Type 1} → statement M
 first-word-spec =

@@ -1,71 +1,35 @@
--- The invariant: the count is what the words passed add to the row's sum.
-use mathlib.Core.Path.{_≡_}
-use Prim.Native.Nat.{ℕ, _+_, _-_, _≤_}
+-- The blocks and the words left add up.
+use Prim.Native.Nat.{ℕ}
 use native.Mathlib.Omega.{arith}
 use borrow.Author.Needs.{needs}
-use Rattle.count.specs.Rows.{Adds, movedDiffer}
-use Rattle.count.proofs.RowLaws.{adds-none, adds-more, adds-next-le, row-words-le}
+use Rattle.count.specs.Rows.{movedDiffer}
+use Rattle.count.proofs.RowLaws.{adds-next-le, row-words-le}
 use Rattle.count.proofs.DifferLaws.{movedDiffer-lt}
 use Rattle.count.proofs.differences.interior.Statement.{statement}
 use Rattle.count.proofs.differences.interior.Tie as tie
 
-abbrev Inv-loop : tie.InvT-loop
-Inv-loop t1 e1 t2 e2 base from m ones count₀ k₀ end count k = (m .first ≤ k) × ((k ≤ m .end) × Adds (movedDiffer t1 e1 t2 e2 base from m) (m .first) k count)
+interior-blocks-requires : tie.Need-interior-blocks-requires
+interior-blocks-requires c κs = search needs
 
-abbrev μ-loop : tie.MeasureT-loop
-μ-loop t1 e1 t2 e2 base from m ones count₀ k₀ end count k = m .end - k
+interior-rest-requires : tie.Need-interior-rest-requires
+interior-rest-requires c κs = search needs
 
-abbrev row : tie.Start Inv-loop μ-loop → ℕ → ℕ
-row c = let a = c .args in movedDiffer (a .t1 .now) (a .e1 .now) (a .t2 .now) (a .e2 .now) (a .base) (a .from) (a .m)
-
-loop-holds : tie.Need-loop-holds Inv-loop μ-loop
-loop-holds c = let s = c .before .before .before .before in (omega arith, (s .pre .0 .ordered, adds-none (row s) (s .args .m .first)))
-
-interior-word-requires : tie.Need-interior-word-requires Inv-loop μ-loop
-interior-word-requires c κs =
+add-result : tie.Need-add-result
+add-result c =
     let s = c .before .before .before .before .before .before in
-    (s .pre .0, ((c .before .loop .inv .0, c .loop-test .taken), (s .pre .1 .0, s .pre .1 .1)))
-
-add-count : tie.Need-add-count Inv-loop μ-loop
-add-count c =
-    let s = c .before .before .before .before .before .before .before in
     let a = s .args in
-    let l = c .before .before .loop in
+    let b = c .before .interior-blocks in
+    let f : ℕ → ℕ = movedDiffer (a .t1 .now) (a .e1 .now) (a .t2 .now) (a .e2 .now) (a .base) (a .from) (a .m) in
     omega (
       arith,
-      s,
+      s .pre .0,
       row-words-le (a .m .w) (s .pre .0 .width),
-      adds-next-le (row s) (s .args .m .first) (l .k) (l .count) (c .interior-word .result) (movedDiffer-lt (a .t1 .now) (a .e1 .now) (a .t2 .now) (a .e2 .now) (a .base) (a .from) (a .m)) (l .inv .1 .1) (c .interior-word .ensures),
+      adds-next-le f (a .m .first) (a .m .rest) (a .m .end) (b .result) (c .interior-rest .result) (movedDiffer-lt (a .t1 .now) (a .e1 .now) (a .t2 .now) (a .e2 .now) (a .base) (a .from) (a .m)) (b .ensures) (c .interior-rest .ensures),
     )
 
-add-k : tie.Need-add-k Inv-loop μ-loop
-add-k c = search needs
-
-loop-less : tie.Need-loop-less Inv-loop μ-loop
-loop-less c = search needs
-
-loop-again : tie.Need-loop-again Inv-loop μ-loop
-loop-again c =
-    let s = c .before .before .before .before .before .before .before in
-    let l = c .before .before .loop in
-    (omega arith, (omega arith, adds-more (row s) (s .args .m .first) (l .k) (l .k + 1) (l .count) (c .interior-word .result) (l .inv .1 .1) (c .interior-word .ensures)))
-
-returns : tie.Need-returns Inv-loop μ-loop
-returns c =
-    let l = c .before .loop in
-    let e : l .k ≡ c .before .before .before .before .before .before .args .m .end = omega arith in
-    rw e at (l .inv .1 .1)
+returns : tie.Need-returns
+returns c = search needs
 
 pub interior-spec : {M : Type 1} → statement M
 interior-spec =
-    tie.close
-    (tie.spec
-    Inv-loop
-    μ-loop
-    loop-holds
-    interior-word-requires
-    add-count
-    add-k
-    loop-less
-    loop-again
-    returns)
+    tie.close (tie.spec interior-blocks-requires interior-rest-requires add-result returns)

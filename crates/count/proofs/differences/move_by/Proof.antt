@@ -1,6 +1,6 @@
 -- The words from `first` up to `end` are interior: omega over the clamps.
 use mathlib.Core.Path.{refl}
-use Prim.Native.Nat.{_/_, _%_}
+use Prim.Native.Nat.{_-_, _/_, _%_}
 use native.Mathlib.Omega.{arith}
 use borrow.Author.Needs.{needs}
 use Rattle.count.proofs.DifferLaws.{moves}
@@ -34,6 +34,12 @@ sub-lower-2 c = search needs
 lower-requires-2 : tie.Need-lower-requires-2
 lower-requires-2 c κs = search needs
 
+sub-rest : tie.Need-sub-rest
+sub-rest c = search needs
+
+sub-rest-2 : tie.Need-sub-rest-2
+sub-rest-2 c = search needs
+
 returns : tie.Need-returns
 returns c =
     let s = c .before .before .before .before .before in
@@ -44,9 +50,9 @@ returns c =
       (
         omega arith,
         moves
-            (record { w = a .w; n = n .result; q = a .d / 64; r = a .d % 64; first = c .lower2 .result; end = e .result })
+            (record { w = a .w; n = n .result; q = a .d / 64; r = a .d % 64; first = c .lower2 .result; rest = e .result - (e .result - c .lower2 .result) % 7; end = e .result })
             (a .d) (s .pre .0) (n .ensures) refl
-            (rw (c .before .before .before .upper .ensures) at (e .ensures)) (rw (c .before .upper2 .ensures) at (c .lower2 .ensures)),
+            (rw (c .before .before .before .upper .ensures) at (e .ensures)) (rw (c .before .upper2 .ensures) at (c .lower2 .ensures)) refl,
       ),
     )
 
@@ -63,4 +69,6 @@ move-by-spec =
     upper-requires-2
     sub-lower-2
     lower-requires-2
+    sub-rest
+    sub-rest-2
     returns)
