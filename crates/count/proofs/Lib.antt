@@ -4,4 +4,5 @@ pub mod OnesLaws
 pub mod RowLaws
 pub mod AdderLaws
 pub mod DifferLaws
+pub mod OverlapLaws
 pub mod AnswerLaws
