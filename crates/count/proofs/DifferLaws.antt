@@ -29,7 +29,7 @@ use Rattle.count.proofs.RowLaws.{word-adds, word-none, full-word, bitAt
 
 -- ---- the four bits of a pixel
 
-disagree-lt : (t1 e1 t2 e2 : ℕ) → disagree t1 e1 t2 e2 < 2
+pub disagree-lt : (t1 e1 t2 e2 : ℕ) → disagree t1 e1 t2 e2 < 2
 unfolding disagree
 disagree-lt t1 e1 t2 e2 = let a = gate-le (eqb e1 1 && (eqb e2 1 && not (eqb t1 t2))) 1 in omega arith
 
@@ -38,7 +38,7 @@ disagree-left : (t1 t2 e2 : ℕ) → disagree t1 0 t2 e2 ≡ 0
 unfolding disagree
 disagree-left t1 t2 e2 = refl
 
-disagree-right : (t1 e1 t2 : ℕ) → disagree t1 e1 t2 0 ≡ 0
+pub disagree-right : (t1 e1 t2 : ℕ) → disagree t1 e1 t2 0 ≡ 0
 unfolding disagree
 disagree-right t1 e1 t2 = out (eqb e1 1)
   where
@@ -73,6 +73,12 @@ excluded t1 t2 on off l = disagree-right t1 1 t2
 excluded t1 t2 on on l = absurd (omega arith)
 
 -- ---- the pixels of a word
+
+pub mixed-bit : (t1 e1 t2 e2 i : ℕ) → bit (bitAnd (bitXor t1 t2) (bitAnd e1 e2)) i ≡ disagree (bit t1 i) (bit e1 i) (bit t2 i) (bit e2 i)
+mixed-bit t1 e1 t2 e2 i =
+    bit-and (bitXor t1 t2) (bitAnd e1 e2) i
+    ∙ ap₂ (λ (a b : ℕ). min a b) (bit-xor t1 t2 i) (bit-and e1 e2 i)
+    ∙ masked-disagree (bit-case t1 i) (bit-case e1 i) (bit-case t2 i) (bit-case e2 i)
 
 pub rowDiffer-past : (t1 e1 t2 e2 : List ℕ) (base from w d x : ℕ) → w ≤ x → rowDiffer t1 e1 t2 e2 base from w d x ≡ 0
 unfolding rowDiffer

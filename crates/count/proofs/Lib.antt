@@ -5,4 +5,5 @@ pub mod RowLaws
 pub mod AdderLaws
 pub mod MovedLaws
 pub mod DifferLaws
+pub mod OverlapLaws
 pub mod AnswerLaws

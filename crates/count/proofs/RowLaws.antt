@@ -62,18 +62,18 @@ pub word-none : (f : ℕ → ℕ) (k : ℕ) → WordOf f k 0 → Adds f k (k + 1
 word-none f k e = let a = word-more f k 0 e in let z = sum-zero 64 (bit 0) (λ i l. bit-zero i) in omega arith
 
 -- nothing is added past the last pixel
-sum-stop : (m n : ℕ) (f : ℕ → ℕ) → m ≤ n → ((i : ℕ) → m ≤ i → f i ≡ 0) → sum n f ≡ sum m f
+pub sum-stop : (m n : ℕ) (f : ℕ → ℕ) → m ≤ n → ((i : ℕ) → m ≤ i → i < n → f i ≡ 0) → sum n f ≡ sum m f
 sum-stop m n f l e =
     let d : n ≡ m + (n - m) = omega arith in
     ap (λ (k : ℕ). sum k f) d
     ∙ sum-split m (n - m) f
-    ∙ ap (λ (s : ℕ). sum m f + s) (sum-zero (n - m) (λ i. f (m + i)) (λ i k. e (m + i) (omega arith)))
+    ∙ ap (λ (s : ℕ). sum m f + s) (sum-zero (n - m) (λ i. f (m + i)) (λ i k. e (m + i) (omega arith) (omega arith)))
     ∙ add-zero (sum m f)
 
 -- a row's words make up its pixels
 row-whole : (f : ℕ → ℕ) (w count : ℕ) → ((x : ℕ) → w ≤ x → f x ≡ 0) → Adds f 0 (rowWords w) count → count ≡ sum w f
 unfolding rowWords sum
-row-whole f w count e a = let b = sum-stop w (rowWords w * 64) f (omega arith) e in omega arith
+row-whole f w count e a = let b = sum-stop w (rowWords w * 64) f (omega arith) (λ x l m. e x l) in omega arith
 
 -- sums of bits are small
 pub bits-le : (n : ℕ) (f : ℕ → ℕ) → ((i : ℕ) → f i < 2) → sum n f ≤ n

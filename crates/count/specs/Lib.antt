@@ -1,3 +1,4 @@
 -- Definitions that the cores' contracts cite.
 pub mod Ones
 pub mod Rows
+pub mod Runs

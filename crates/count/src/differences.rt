@@ -45,7 +45,7 @@ fn lower(a: usize, b: usize) -> usize
     if a < b { a } else { b }
 }
 
-fn upper(a: usize, b: usize) -> usize
+pub fn upper(a: usize, b: usize) -> usize
     ensures { λ r. ⌜ r ≡ max a b ⌝ }
 {
     if a < b { b } else { a }

@@ -3,6 +3,7 @@
 pub mod adder;
 pub mod differences;
 pub mod ones;
+pub mod overlaps;
 pub mod totals;
 
 use differences::difference_frame;

@@ -1,0 +1,116 @@
+-- The rows that have a partner are one run of words; if none has, nothing differs.
+use mathlib.Core.Path.{_≡_, ap, _∙_}
+use Prim.Native.Nat.{ℕ, _+_, _*_, _-_, max}
+use native.Mathlib.Omega.{arith}
+use mir.Facts.{toZ-ofZ}
+use borrow.Author.Needs.{needs}
+use Rattle.words.specs.Rows.{bias, biasOf}
+use Rattle.count.specs.Runs.{RunsIn}
+use Rattle.count.proofs.OverlapLaws.{overlap-none, overlap-whole, runs-in}
+use Rattle.count.proofs.overlaps.overlap_frame.Statement.{statement}
+use Rattle.count.proofs.overlaps.overlap_frame.Tie as tie
+
+abbrev start : tie.After-upper → tie.Start
+start c = c .before .before .before .before .before .before
+
+abbrev up : tie.After-upper → ℕ
+up c = c .before .biased .result
+
+abbrev top : tie.After-upper → ℕ
+top c = c .upper .result - bias
+
+abbrev from : tie.After-upper → ℕ
+from c = c .upper .result - up c
+
+up-is : (c : tie.After-upper) → up c ≡ biasOf (start c .args .dy)
+up-is c = c .before .biased .ensures ∙ ap biasOf (toZ-ofZ (start c .fits .dy))
+
+top-is : (c : tie.After-upper) → top c ≡ max (up c) bias - bias
+top-is c = ap (λ (m : ℕ). m - bias) (c .upper .ensures)
+
+from-is : (c : tie.After-upper) → from c ≡ max (up c) bias - up c
+from-is c = ap (λ (m : ℕ). m - up c) (c .upper .ensures)
+
+runs : (c : tie.After-row-words)
+    → let u = c .before .before in
+    let a = start u .args in
+    let n = c .row-words .result in
+    RunsIn (a .t1 .now) (a .e1 .now) (a .t2 .now) (a .e2 .now) (top u * n) (from u * n) ((a .h - (top u + from u)) * n)
+runs c =
+    let u = c .before .before in
+    let s = start u in
+    let a = s .args in
+    runs-in (a .t1 .now) (a .e1 .now) (a .t2 .now) (a .e2 .now) (a .w) (a .h) (c .row-words .result) (top u) (from u) (c .row-words .ensures) (s .pre .0) (s .pre .1 .0)
+    (s .pre .1 .1 .0) (c .before .if1 .left)
+
+biased-requires : tie.Need-biased-requires
+biased-requires c κs = search needs
+
+upper-requires : tie.Need-upper-requires
+upper-requires c κs = search needs
+
+sub-top : tie.Need-sub-top
+sub-top c = search needs
+
+sub-from : tie.Need-sub-from
+sub-from c = search needs
+
+add-if1 : tie.Need-add-if1
+add-if1 c = search needs
+
+returns : tie.Need-returns
+returns c =
+    let u = c .before in
+    let s = start u in
+    let a = s .args in
+    overlap-none (a .w) (a .h) (a .dy) (a .t1 .now) (a .e1 .now) (a .t2 .now) (a .e2 .now) (up u) (top u) (from u) (s .fits .dy) (up-is u) (top-is u) (from-is u)
+    (c .if1 .taken)
+
+row-words-requires : tie.Need-row-words-requires
+row-words-requires c κs = search needs
+
+add-rows : tie.Need-add-rows
+add-rows c = search needs
+
+sub-rows : tie.Need-sub-rows
+sub-rows c = search needs
+
+mul-run-difference : tie.Need-mul-run-difference
+mul-run-difference c = omega (arith, runs c)
+
+mul-run-difference-2 : tie.Need-mul-run-difference-2
+mul-run-difference-2 c = omega (arith, runs c)
+
+mul-run-difference-3 : tie.Need-mul-run-difference-3
+mul-run-difference-3 c = omega (arith, runs c)
+
+run-difference-requires : tie.Need-run-difference-requires
+run-difference-requires c κs = (runs c, start (c .before .before) .pre .1 .1 .1 .1)
+
+returns-2 : tie.Need-returns-2
+returns-2 c =
+    let u = c .before .before .before in
+    let s = start u in
+    let a = s .args in
+    let n = c .before .row-words in
+    overlap-whole (a .w) (a .h) (a .dy) (a .t1 .now) (a .e1 .now) (a .t2 .now) (a .e2 .now) (up u) (top u) (from u) (s .fits .dy) (up-is u) (top-is u) (from-is u)
+    (s .pre .1 .1 .1 .0) (c .before .before .if1 .left) (n .result) (c .run-difference .result) (n .ensures) (c .run-difference .ensures)
+
+pub overlap-frame-spec : {M : Type 1} → statement M
+overlap-frame-spec =
+    tie.close
+    (tie.spec
+    biased-requires
+    upper-requires
+    sub-top
+    sub-from
+    add-if1
+    returns
+    row-words-requires
+    add-rows
+    sub-rows
+    mul-run-difference
+    mul-run-difference-2
+    mul-run-difference-3
+    run-difference-requires
+    returns-2)
