@@ -51,7 +51,7 @@ pub fn upper(a: usize, b: usize) -> usize
     if a < b { b } else { a }
 }
 
-fn move_by(w: usize, d: usize) -> Move
+pub fn move_by(w: usize, d: usize) -> Move
     requires width { ⌜ w ≤ maxSide ⌝ }
     requires near { ⌜ d < 4294967296 ⌝ }
     ensures { λ m. ⌜ (m .w ≡ w) × ((m .q * wordBits + m .r ≡ d) × Moves m) ⌝ }
@@ -75,7 +75,7 @@ fn move_by(w: usize, d: usize) -> Move
 
 // The bits of one word moved up by r, below them the topmost r bits of the word before it. (Two steps
 // down, since the machine moves by less than 64.)
-fn joined_word(high: u64, low: u64, r: usize) -> u64
+pub fn joined_word(high: u64, low: u64, r: usize) -> u64
     requires { ⌜ r < wordBits ⌝ }
     ensures { λ v. ⌜ Joined high low r v ⌝ }
 {
