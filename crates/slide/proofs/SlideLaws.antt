@@ -23,7 +23,7 @@ use Rattle.words.proofs.BitLaws.{word-is}
 use Rattle.words.proofs.MoveLaws.{gate-lt, gate-ge, row-words-over, bitAt-row, moved-by}
 use Rattle.count.specs.declared.differences.Move.{Move}
 use Rattle.count.specs.Rows.{movedBit, Joined, Interior}
-use Rattle.count.proofs.DifferLaws.{WordIn, moved-word, joined-moved}
+use Rattle.count.proofs.MovedLaws.{WordIn, moved-word, raw-moved}
 use Rattle.slide.specs.Slides.{slidWord, slidRow, slidFrom}
 
 -- ---- one word
@@ -46,7 +46,7 @@ pub edge-slid : (words : List ℕ) (from w d k v u : ℕ) → u < 2 ^ 64 → Wor
     → ((i : ℕ) → bit u i ≡ gate (ltb i (w - k * 64)) (bit v i)) → u ≡ slidWord words from w d k
 edge-slid words from w d k v u b s t =
     slid-is words from w d k u b
-    (λ i l m. t i ∙ gate-lt i (w - k * 64) (bit v i) (omega arith) ∙ moved-word words from w d k v s i l m)
+    (λ i l m. t i ∙ gate-lt i (w - k * 64) (bit v i) (omega arith) ∙ moved-word words from w d k v s i l)
     (λ i l m. t i ∙ gate-ge i (w - k * 64) (bit v i) (omega arith))
 
 -- an interior word: it is full, and so are the two that it is made of
@@ -54,7 +54,7 @@ pub interior-slid : (words : List ℕ) (from w q r k j v : ℕ) → v < 2 ^ 64 �
     → Joined (getD words j 0) (getD words (j - 1) 0) r v → v ≡ slidWord words from w (q * 64 + r) k
 interior-slid words from w q r k j v b l n e a =
     slid-is words from w (q * 64 + r) k v b
-    (joined-moved words from w q r k j v l (n .low) e (λ i m x. omega (arith, n)) a)
+    (λ i m x. raw-moved words from w q r k (k + 33554432 - q) j (j - 1) v l (omega (arith, n)) (omega (arith, n)) (omega (arith, n)) (omega (arith, n)) a i m (omega (arith, n)) (omega (arith, n)))
     (λ i m x. absurd (omega (arith, n)))
 
 -- ---- rows whose source stays as it was

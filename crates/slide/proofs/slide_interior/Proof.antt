@@ -1,6 +1,7 @@
 -- The invariant: the interior words up to k are written, and nothing else has changed.
 use mathlib.Core.Path.{_≡_, refl}
-use Prim.Native.Nat.{_+_, _-_, _/_, _≤_}
+use Prim.Native.Nat.{_+_, _-_, _/_, _≤_, _<_}
+use lib.ListN.{length}
 use native.Mathlib.Omega.{arith}
 use borrow.Author.Needs.{needs}
 use Rattle.rules.proofs.FrameLaws.{RowAt}
@@ -20,27 +21,48 @@ abbrev μ-loop : tie.MeasureT-loop
 inside : (c : tie.In-loop Inv-loop μ-loop) → let a = c .before .before .before .args in Interior (a .m .w / 64) (a .m .q) (c .before .loop .k)
 inside c = let s = c .before .before .before in s .pre .0 .inside (c .before .loop .k) (c .before .loop .inv .0) (c .loop-test .taken)
 
+-- both words lie in the row
+placed : (c : tie.In-loop Inv-loop μ-loop)
+    → let a = c .before .before .before .args in
+    (1 ≤ c .before .loop .k + 33554432 - a .m .q) × (a .from + c .before .loop .k + 33554432 - a .m .q < length (c .before .loop .words))
+placed c =
+    let s = c .before .before .before in
+    let n = inside c in
+    let f = full-le (s .args .m .w) in
+    (omega arith, omega (arith, s .pre .0, c .before .loop .inv .1 .1))
+
 loop-holds : tie.Need-loop-holds Inv-loop μ-loop
 loop-holds c =
     let s = c .before in
     let a = s .args in
     (omega arith, (omega (arith, s .pre .0), part-none (a .words .now) (a .from) (a .m) (a .to) (a .m .first)))
 
-add-joined-word : tie.Need-add-joined-word Inv-loop μ-loop
-add-joined-word c = search needs
+add-j : tie.Need-add-j Inv-loop μ-loop
+add-j c = search needs
 
-add-joined-word-2 : tie.Need-add-joined-word-2 Inv-loop μ-loop
-add-joined-word-2 c = search needs
+add-j-2 : tie.Need-add-j-2 Inv-loop μ-loop
+add-j-2 c = search needs
+
+sub-j : tie.Need-sub-j Inv-loop μ-loop
+sub-j c = omega (arith, inside (c .before))
+
+mul-joined-word : tie.Need-mul-joined-word Inv-loop μ-loop
+mul-joined-word c = search needs
+
+slice-read-joined-word : tie.Need-slice-read-joined-word Inv-loop μ-loop
+slice-read-joined-word c = omega (arith, (placed (c .before .before)))
 
 sub-joined-word : tie.Need-sub-joined-word Inv-loop μ-loop
 sub-joined-word c = omega (arith, inside (c .before .before))
 
+mul-joined-word-2 : tie.Need-mul-joined-word-2 Inv-loop μ-loop
+mul-joined-word-2 c = search needs
+
+slice-read-joined-word-2 : tie.Need-slice-read-joined-word-2 Inv-loop μ-loop
+slice-read-joined-word-2 c = omega (arith, (placed (c .before .before .before)))
+
 joined-word-requires : tie.Need-joined-word-requires Inv-loop μ-loop
-joined-word-requires c κs =
-    let s = c .before .before .before .before .before in
-    let n = inside (c .before .before) in
-    let f = full-le (s .args .m .w) in
-    (s .pre .0 .bits, (omega arith, omega (arith, s .pre .0)))
+joined-word-requires c κs = search needs
 
 add-words : tie.Need-add-words Inv-loop μ-loop
 add-words c = search needs
@@ -59,16 +81,16 @@ loop-less c = search needs
 
 loop-again : tie.Need-loop-again Inv-loop μ-loop
 loop-again c =
-    let s = c .before .before .before .before .before .before in
+    let s = c .before .before .before .before .before .before .before in
     let a = s .args in
-    let L = c .before .before .before .before .loop in (
+    let L = c .before .before .before .before .before .loop in (
       omega arith,
       (
         omega arith,
         word-more (a .words .now) (L .words) (a .from) (a .m) (a .to) (a .m .first) (L .k) (c .joined-word .result) (s .pre .0 .row) (omega arith) (L .inv .0) (omega arith)
             (L .inv .1 .1)
             (interior-slid (L .words) (a .from) (a .m .w) (a .m .q) (a .m .r) (L .k) (a .from + L .k + 33554432 - a .m .q) (c .joined-word .result) (c .joined-word .ok) (s .pre .0 .bits)
-            (inside (c .before .before .before)) refl (c .joined-word .ensures)),
+            (inside (c .before .before .before .before)) refl (c .joined-word .ensures)),
       ),
     )
 
@@ -88,9 +110,14 @@ slide-interior-spec =
     Inv-loop
     μ-loop
     loop-holds
-    add-joined-word
-    add-joined-word-2
+    add-j
+    add-j-2
+    sub-j
+    mul-joined-word
+    slice-read-joined-word
     sub-joined-word
+    mul-joined-word-2
+    slice-read-joined-word-2
     joined-word-requires
     add-words
     mul-words
