@@ -51,7 +51,7 @@ pub fn upper(a: usize, b: usize) -> usize
     if a < b { b } else { a }
 }
 
-fn move_by(w: usize, d: usize) -> Move
+pub fn move_by(w: usize, d: usize) -> Move
     requires width { ⌜ w ≤ maxSide ⌝ }
     requires near { ⌜ d < 4294967296 ⌝ }
     ensures { λ m. ⌜ (m .w ≡ w) × ((m .q * wordBits + m .r ≡ d) × Moves m) ⌝ }
@@ -75,7 +75,7 @@ fn move_by(w: usize, d: usize) -> Move
 
 // The bits of word j moved up by r, below them the topmost r bits of the word before it. (Two steps
 // down, since the machine moves by less than 64.)
-fn joined_word(src: &[u64], j: usize, r: usize) -> u64
+pub fn joined_word(src: &[u64], j: usize, r: usize) -> u64
     requires bits { ⌜ r < wordBits ⌝ }
     requires here { ⌜ (1 ≤ j) × (j < length (now src)) ⌝ }
     ensures { λ v. ⌜ Joined (getD (now (src .entry)) j 0) (getD (now (src .entry)) (j - 1) 0) r v ⌝ }

@@ -1,0 +1,2 @@
+-- Laws of a bitmap moved inside the memory that it lies in.
+pub mod SlideLaws

@@ -1,0 +1,2 @@
+-- The words of a moved row.
+pub mod Slides

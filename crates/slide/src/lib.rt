@@ -1,0 +1,95 @@
+// A packed bitmap moved sideways inside one lent memory: a memory can't be lent in two parts at once, so
+// the bitmap and the moved one are places of one slice.
+
+use count::differences::Move;
+use count::differences::joined_word;
+use count::differences::move_by;
+use words::biased;
+use words::keep_low;
+use words::moved_word;
+ghost use mathlib.Core.Path.{_≡_};
+ghost use Prim.Native.Nat.{_+_, _*_, _-_, _≤_, _<_};
+ghost use lib.IntN.{pos};
+ghost use lib.ListN.{length, drop};
+ghost use Rattle.rules.specs.Limits.{maxSide};
+ghost use Rattle.rules.specs.Planes.{shifted};
+ghost use Rattle.rules.specs.Bitmaps.{rowWords, bitAt, wordOf};
+ghost use Rattle.rules.proofs.FrameLaws.{RowAt, FrameAt};
+ghost use Rattle.count.specs.Rows.{Moves};
+ghost use Rattle.slide.specs.Slides.{slidRow, slidFrom};
+
+const WORD_BITS: usize = 64;
+
+// 2^31 / 64: a move's words are counted from it.
+const BIAS_WORDS: usize = 33554432;
+
+// Word k of the moved row, at its edges: made of what lies in the row, with its bits past w as 0.
+fn edge_word(words: &[u64], from: usize, m: Move, k: usize) -> u64
+    requires moves { ⌜ Moves m ⌝ }
+    requires here { ⌜ k < m .n ⌝ }
+    requires row { ⌜ from + m .n ≤ length (now words) ⌝ }
+    ensures { λ v. ⌜ v ≡ slidRow (now (words .entry)) from m k ⌝ }
+{
+    let v = moved_word(words, from, m.w, k + BIAS_WORDS, m.q, m.r);
+    keep_low(v, m.w - k * WORD_BITS)
+}
+
+// The words from `first` up to `end` of the row at `to`.
+fn slide_edge(words: &mut [u64], from: usize, m: Move, to: usize, first: usize, end: usize)
+    requires moves { ⌜ Moves m ⌝ }
+    requires span { ⌜ (first ≤ end) × (end ≤ m .n) ⌝ }
+    requires apart { ⌜ from + m .n ≤ to ⌝ }
+    requires room { ⌜ to + m .n ≤ length (now words) ⌝ }
+    ensures { λ _. ⌜ RowAt (to + first) (slidFrom (now (words .entry)) from m first) (now (words .entry)) (end - first) (now (words .exit)) ⌝ }
+{
+    let mut k = first;
+    while k < end {
+        words[to + k] = edge_word(words, from, m, k);
+        k += 1;
+    }
+}
+
+// The interior words of the row at `to`: two words of the row joined, with no test and no mask.
+fn slide_interior(words: &mut [u64], from: usize, m: Move, to: usize)
+    requires moves { ⌜ Moves m ⌝ }
+    requires apart { ⌜ from + m .n ≤ to ⌝ }
+    requires room { ⌜ to + m .n ≤ length (now words) ⌝ }
+    ensures { λ _. ⌜ RowAt (to + m .first) (slidFrom (now (words .entry)) from m (m .first)) (now (words .entry)) (m .end - m .first) (now (words .exit)) ⌝ }
+{
+    let mut k = m.first;
+    let end = m.end;
+    while k < end {
+        words[to + k] = joined_word(words, from + k + BIAS_WORDS - m.q, m.r);
+        k += 1;
+    }
+}
+
+// The row at `from`, moved, written at `to`.
+fn slide_row(words: &mut [u64], from: usize, m: Move, to: usize)
+    requires moves { ⌜ Moves m ⌝ }
+    requires apart { ⌜ from + m .n ≤ to ⌝ }
+    requires room { ⌜ to + m .n ≤ length (now words) ⌝ }
+    ensures { λ _. ⌜ RowAt to (slidRow (now (words .entry)) from m) (now (words .entry)) (m .n) (now (words .exit)) ⌝ }
+{
+    slide_edge(words, from, m, to, 0, m.first);
+    slide_interior(words, from, m, to);
+    slide_edge(words, from, m, to, m.end, m.n);
+}
+
+// The bitmap of w by h at place `from`, moved right by dx, written at place `to` of the same memory. It
+// lies before `to`, so no row that is still to be read is overwritten.
+pub fn slide_within(words: &mut [u64], from: usize, w: usize, h: usize, dx: i32, to: usize)
+    requires width { ⌜ w ≤ maxSide ⌝ }
+    requires height { ⌜ h ≤ maxSide ⌝ }
+    requires apart { ⌜ from + rowWords w * h ≤ to ⌝ }
+    requires room { ⌜ to + rowWords w * h ≤ length (now words) ⌝ }
+    ensures { λ _. ⌜ FrameAt to (rowWords w) (wordOf w (shifted w h dx (pos 0) (bitAt w h (drop from (now (words .entry)))))) (now (words .entry)) h (now (words .exit)) ⌝ }
+{
+    let m = move_by(w, biased(dx));
+    let mut y: usize = 0;
+    while y < h {
+        let row = y * m.n;
+        slide_row(words, from + row, m, to + row);
+        y += 1;
+    }
+}
