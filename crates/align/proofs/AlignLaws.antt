@@ -252,7 +252,7 @@ module _ (first second w h s memory : ℕ) (f : Frames first second w h s memory
   pub frames-room : 2 * (w * h) ≤ memory
   frames-room = let a = level-pixels-at s w h in let l = f .room in omega arith
 
-  pub words-room : (words : ℕ) → 4 * (rowWords w * h) ≤ words → 4 * (rowWords (w / 2) * (h / 2)) ≤ words
+  pub words-room : (words : ℕ) → 6 * (rowWords w * h) ≤ words → 6 * (rowWords (w / 2) * (h / 2)) ≤ words
   unfolding rowWords
   words-room words l =
       let a : (w / 2 + 63) / 64 ≤ (w + 63) / 64 = omega arith in

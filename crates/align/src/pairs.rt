@@ -42,7 +42,7 @@ pub fn align_frames(
 ) -> Offset
     requires frames { ⌜ Frames first second w h s (length (now grey)) ⌝ }
     requires percent { ⌜ (1 ≤ percentile) × (percentile ≤ 99) ⌝ }
-    requires room { ⌜ 4 * (rowWords w * h) ≤ length (now words) ⌝ }
+    requires room { ⌜ 6 * (rowWords w * h) ≤ length (now words) ⌝ }
     requires levels { ⌜ at + 9 * (s + 1) ≤ length (now counts) ⌝ }
     requires table { ⌜ CountsOnes (now ones) ⌝ }
     ensures { λ r. ⌜ Aligns first second w h s percentile tolerance at (now (grey .entry)) (now (grey .exit)) (now (counts .entry)) (now (counts .exit)) r ⌝ }

@@ -109,17 +109,28 @@ packed-more t lo hi w h from y grey to exclusions n before old mid new d e l b r
     both-more to (to + rowWords w * h) (rowWords w) (wordOf w (outsidePlane 0 t w (drop from grey))) (wordOf w (outsidePlane lo hi w (drop from grey))) before y old mid new
     (let a = row-fits (rowWords w) h y l in omega arith) b (rw (e, row-of) at r) (rw (d, e, row-of) at s)
 
--- The bits of a plane are those of its words, wherever these begin.
-bits-packed : (w h to : ℕ) (f : Frame) (words : List ℕ) → ((x y : ℕ) → f x y < 2)
+-- The bits of the words of a plane, wherever these begin: the plane's up to its width, and 0 past it.
+pub bits-written : (w h to : ℕ) (f : Frame) (words : List ℕ) → ((x y : ℕ) → f x y < 2)
     → ((k z : ℕ) → k < rowWords w → z < h → getD words (to + (z * rowWords w + k)) 0 ≡ wordOf w f k z)
-    → (x y : ℕ) → x < w → y < h → bitAt w h (drop to words) x y ≡ f x y
-unfolding bitAt rowWords wordOf
-bits-packed w h to f words small done x y k l =
+    → (x y : ℕ) → x < rowWords w * 64 → y < h → bit (getD (drop to words) (y * rowWords w + x / 64) 0) (x % 64) ≡ gate (ltb x w) (f x y)
+unfolding wordOf
+bits-written w h to f words small done x y k l =
     let e : x / 64 * 64 + x % 64 ≡ x = omega arith in
-    ap₂ (λ (s t : Bool). gate (s && t) (bit (getD (drop to words) (y * rowWords w + x / 64) 0) (x % 64))) (lt-ltb x w k) (lt-ltb y h l)
-    ∙ ap (λ (v : ℕ). bit v (x % 64)) (getD-drop to words (y * rowWords w + x / 64) 0 ∙ done (x / 64) y (omega arith) l)
+    ap (λ (v : ℕ). bit v (x % 64)) (getD-drop to words (y * rowWords w + x / 64) 0 ∙ done (x / 64) y (omega arith) l)
     ∙ word-bit (λ i. gate (ltb (x / 64 * 64 + i) w) (f (x / 64 * 64 + i) y)) (λ i m. gate-small (ltb (x / 64 * 64 + i) w) (f (x / 64 * 64 + i) y) (small (x / 64 * 64 + i) y)) (x % 64) (omega arith)
     ∙ ap (λ (j : ℕ). gate (ltb j w) (f j y)) e
+
+row-covers : (w x : ℕ) → x < w → x < rowWords w * 64
+unfolding rowWords
+row-covers w x l = omega arith
+
+pub bits-packed : (w h to : ℕ) (f : Frame) (words : List ℕ) → ((x y : ℕ) → f x y < 2)
+    → ((k z : ℕ) → k < rowWords w → z < h → getD words (to + (z * rowWords w + k)) 0 ≡ wordOf w f k z)
+    → (x y : ℕ) → x < w → y < h → bitAt w h (drop to words) x y ≡ f x y
+unfolding bitAt
+bits-packed w h to f words small done x y k l =
+    ap₂ (λ (s t : Bool). gate (s && t) (bit (getD (drop to words) (y * rowWords w + x / 64) 0) (x % 64))) (lt-ltb x w k) (lt-ltb y h l)
+    ∙ bits-written w h to f words small done x y (row-covers w x k) l
     ∙ ap (λ (t : Bool). gate t (f x y)) (lt-ltb x w k)
 
 outside-small : (lo hi w : ℕ) (grey : List ℕ) (x y : ℕ) → outsidePlane lo hi w grey x y < 2
@@ -157,7 +168,7 @@ packed-at w h percentile tolerance from grey to before after t lo hi bytes t-is 
         ∙ ap (λ (v : ℕ). bitsBy (exclusionBit v tolerance) (frameOf w l₀)) t-is
 
 -- A bitmap is read only at its own words.
-bits-kept : (w h to : ℕ) (before after : List ℕ) → ((m : ℕ) → m < to + rowWords w * h → getD after m 0 ≡ getD before m 0)
+pub bits-kept : (w h to : ℕ) (before after : List ℕ) → ((m : ℕ) → m < to + rowWords w * h → getD after m 0 ≡ getD before m 0)
     → (x y : ℕ) → x < w → y < h → bitAt w h (drop to after) x y ≡ bitAt w h (drop to before) x y
 unfolding bitAt rowWords
 bits-kept w h to before after same x y k l =

@@ -1,7 +1,7 @@
 -- The nine counts of a level, and the candidate that they choose.
 use mathlib.Core.Path.{_≡_}
 use mathlib.Core.List.{List, map}
-use Prim.Native.Nat.{ℕ}
+use Prim.Native.Nat.{ℕ, _+_, _*_}
 use Rattle.rules.specs.declared.Offset.{Offset}
 use Rattle.rules.specs.Levels.{wardOrder, added, chosen}
 use Rattle.rules.proofs.FrameLaws.{RowAt}
@@ -10,6 +10,10 @@ use Rattle.rules.proofs.LevelLaws.{candidateAt}
 -- the count at candidate k around a centre
 abbrev pub nineOf : (Offset → ℕ) → Offset → ℕ → ℕ
 nineOf count centre k = count (candidateAt centre k)
+
+-- the same in column i of the candidates, whose dx is one: candidate j of its three
+abbrev pub columnOf : (Offset → ℕ) → Offset → ℕ → ℕ → ℕ
+columnOf count centre i j = nineOf count centre (3 * i + j)
 
 -- a level's answer: the nine counts stand from place `at` on, and the offset is the first with the least
 pub record Settled (count : Offset → ℕ) (centre : Offset) (at : ℕ) (before after : List ℕ) (r : Offset) : Type 0 where

@@ -38,7 +38,7 @@ pub fn settle(
     requires sides { ⌜ Sides w h ⌝ }
     requires percent { ⌜ (1 ≤ percentile) × (percentile ≤ 99) ⌝ }
     requires frames { ⌜ (first + w * h ≤ length (now grey)) × (second + w * h ≤ length (now grey)) ⌝ }
-    requires room { ⌜ 4 * (rowWords w * h) ≤ length (now words) ⌝ }
+    requires room { ⌜ 6 * (rowWords w * h) ≤ length (now words) ⌝ }
     requires near { ⌜ Near 1000000 centre ⌝ }
     requires nine { ⌜ at + 9 ≤ length (now counts) ⌝ }
     requires table { ⌜ CountsOnes (now ones) ⌝ }

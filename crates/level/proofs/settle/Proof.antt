@@ -31,10 +31,10 @@ nine-counts-requires c κs =
     (p .0, (rw len (p .1 .1 .1 .0), (p .1 .1 .1 .1 .0, (p .1 .1 .1 .1 .1 .0, p .1 .1 .1 .1 .1 .1))))
 
 first-least-requires : tie.Need-first-least-requires
-first-least-requires c κs = rw (c .before .before .before .nine-counts .ensures .len) (c .before .before .before .before .before .before .before .before .before .before .before .before .before .before .before .before .before .before .pre .1 .1 .1 .1 .1 .0)
+first-least-requires c κs = rw (c .before .before .before .before .before .nine-counts .ensures .len) (c .before .before .before .before .before .before .before .before .before .before .before .before .before .before .before .before .before .before .before .before .pre .1 .1 .1 .1 .1 .0)
 
 candidate-requires : tie.Need-candidate-requires
-candidate-requires c κs = (c .first-least .ensures .inside, c .before .before .before .before .before .before .before .before .before .before .before .before .before .before .before .before .before .before .before .pre .1 .1 .1 .1 .0)
+candidate-requires c κs = (c .first-least .ensures .inside, c .before .before .before .before .before .before .before .before .before .before .before .before .before .before .before .before .before .before .before .before .before .pre .1 .1 .1 .1 .0)
 
 same-length : tie.Need-same-length
 same-length c = search needs
@@ -44,11 +44,11 @@ same-length-2 c = search needs
 
 returns : tie.Need-returns
 returns c =
-    let a = c .before .before .before .before .before .before .before .before .before .before .before .before .before .before .before .before .before .before .before .before .args in
-    let size = c .before .before .before .before .before .before .before .before .before .before .before .before .before .before .before .before .bitmap-words in
-    let one = c .before .before .before .before .before .before .before .before .before .before .before .before .before .before .bitmaps-within in
-    let two = c .before .before .before .before .before .before .before .before .before .before .bitmaps-within2 in
-    let nine = c .before .before .before .before .before .nine-counts in
+    let a = c .before .before .before .before .before .before .before .before .before .before .before .before .before .before .before .before .before .before .before .before .before .before .args in
+    let size = c .before .before .before .before .before .before .before .before .before .before .before .before .before .before .before .before .before .before .bitmap-words in
+    let one = c .before .before .before .before .before .before .before .before .before .before .before .before .before .before .before .before .bitmaps-within in
+    let two = c .before .before .before .before .before .before .before .before .before .before .before .before .bitmaps-within2 in
+    let nine = c .before .before .before .before .before .before .before .nine-counts in
     let best = c .before .first-least in
     let mid = one .last .1 .1 .1 .1 .1 .1 .0 in
     let words = two .last .1 .1 .1 .1 .1 .1 .0 in
