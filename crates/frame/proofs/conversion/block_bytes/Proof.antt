@@ -1,8 +1,8 @@
 -- The invariant: the first k bytes are copied. The length lets each store be in range.
-use mathlib.Core.Path.{_≡_, refl, _∙_}
-use Prim.Native.Nat.{_+_, _≤_, _-_}
+use mathlib.Core.Path.{_≡_, refl}
+use Prim.Native.Nat.{_≤_, _-_}
 use native.Mathlib.Omega.{arith}
-use lib.ListN.{length, length-set, getD}
+use lib.ListN.{length, length-set}
 use borrow.Author.Needs.{needs}
 use Rattle.frame.specs.Places.{byteFrom, Filled}
 use Rattle.frame.proofs.PlaceLaws.{filled-none, filled-more}
@@ -37,9 +37,7 @@ loop-again : tie.Need-loop-again Inv-loop μ-loop
 unfolding byteFrom
 loop-again c =
     let lp = c .before .before .loop in
-    let a = c .before .before .before .args in
-    let v = getD (a .raster .now) (a .from + lp .k) 0 in
-    (omega arith, length-set (lp .all) (lp .k) v ∙ lp .inv .1, filled-more _ (lp .k) (lp .all) v (omega arith) (lp .inv .2) refl)
+    (omega arith, simp length-set (lp .inv .1), filled-more _ (lp .k) (lp .all) _ (omega arith) (lp .inv .2) refl)
 
 returns : tie.Need-returns Inv-loop μ-loop
 returns c =

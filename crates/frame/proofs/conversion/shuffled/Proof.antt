@@ -1,8 +1,8 @@
 -- The invariant: the first 2 k bytes are laid. The length lets each store be in range.
-use mathlib.Core.Path.{_≡_, refl, _∙_}
-use Prim.Native.Nat.{_+_, _*_, _≤_, _-_}
+use mathlib.Core.Path.{_≡_, refl}
+use Prim.Native.Nat.{_*_, _≤_, _-_}
 use native.Mathlib.Omega.{arith}
-use lib.ListN.{length, length-set, getD, set}
+use lib.ListN.{length, length-set}
 use borrow.Author.Needs.{needs}
 use Rattle.frame.specs.Places.{shuffledAt, Filled}
 use Rattle.frame.proofs.PlaceLaws.{filled-none}
@@ -52,12 +52,10 @@ loop-less c = search needs
 loop-again : tie.Need-loop-again Inv-loop μ-loop
 loop-again c =
     let lp = c .before .before .before .loop in
-    let all = c .before .before .before .before .args .all .now in
-    let a = getD all (lp .k) 0 in
-    let b = getD all (48 + lp .k) 0 in (
+    let all = c .before .before .before .before .args .all .now in (
       omega arith,
-      length-set (set (lp .out) (2 * lp .k) a) (2 * lp .k + 1) b ∙ length-set (lp .out) (2 * lp .k) a ∙ lp .inv .1,
-      two-more (shuffledAt all) (lp .k) (lp .out) a b (omega arith) (lp .inv .2) (shuffled-even all (lp .k)) (shuffled-odd all (lp .k)),
+      simp length-set (lp .inv .1),
+      two-more (shuffledAt all) (lp .k) (lp .out) _ _ (omega arith) (lp .inv .2) (shuffled-even all (lp .k)) (shuffled-odd all (lp .k)),
     )
 
 returns : tie.Need-returns Inv-loop μ-loop

@@ -1,5 +1,5 @@
 -- The invariant: the first k grey values are done. The length lets each store be in range.
-use mathlib.Core.Path.{_≡_, refl, _∙_}
+use mathlib.Core.Path.{_≡_, refl}
 use Prim.Native.Nat.{_≤_, _-_}
 use native.Mathlib.Omega.{arith}
 use lib.ListN.{length, length-set}
@@ -49,8 +49,7 @@ loop-again : tie.Need-loop-again Inv-loop μ-loop
 unfolding weighedAt
 loop-again c =
     let lp = c .before .before .before .before .before .loop in
-    let v = c .grey-of .result in
-    (omega arith, length-set (lp .block) (lp .k) v ∙ lp .inv .1, filled-more _ (lp .k) (lp .block) v (omega arith) (lp .inv .2) (c .grey-of .ensures))
+    (omega arith, simp length-set (lp .inv .1), filled-more _ (lp .k) (lp .block) _ (omega arith) (lp .inv .2) (c .grey-of .ensures))
 
 returns : tie.Need-returns Inv-loop μ-loop
 returns c =
