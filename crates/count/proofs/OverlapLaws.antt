@@ -3,9 +3,9 @@ use mathlib.Core.Path.{_≡_, refl, sym, ap, ap₂, _∙_}
 use mathlib.Core.Logic.{⊎-elim}
 use mathlib.Core.List.{List}
 use Prim.Native.Nat.{ℕ, _+_, _*_, _-_, _/_, _%_, _≤_, _<_, max}
-use native.Mathlib.Nat.{add-mul, mul-assoc, mul-comm, mul-le-mul, mul-le-mul-right}
+use native.Mathlib.Nat.{add-mul, mul-assoc, mul-comm, mul-le-mul}
 use native.Mathlib.Omega.{arith}
-use lib.ListN.{length, getD}
+use lib.ListN.{getD}
 use lib.IntN.{ℤ, pos}
 use lib.Bits.{bitAnd, bitXor}
 use mir.Syntax.{w32}
@@ -17,8 +17,8 @@ use Rattle.rules.specs.Calls.{planesOf}
 use Rattle.rules.proofs.SumLaws.{order, sum-ext, sum-zero, sum-split, sum-none, pixels-flat}
 use Rattle.words.specs.Rows.{WordOf, rowBit, bias, biasOf}
 use Rattle.words.proofs.MoveLaws.{gate-lt, back-at}
-use Rattle.count.specs.Rows.{Adds, disagree, movedBit, rowDiffer, lineDiffer, FramesIn}
-use Rattle.count.specs.Runs.{runBit, runDiffer, RunsIn, Clean}
+use Rattle.count.specs.Rows.{Adds, disagree, movedBit, rowDiffer, lineDiffer}
+use Rattle.count.specs.Runs.{runBit, runDiffer, Clean}
 use Rattle.count.proofs.RowLaws.{sum-stop, adds-more, row-words-le}
 use Rattle.count.proofs.DifferLaws.{disagree-lt, disagree-right, mixed-bit, line-before, line-past, line-paired, frame-whole}
 
@@ -158,17 +158,13 @@ module _ (w h : ℕ) (dy : ℤ) (t1 e1 t2 e2 : List ℕ) (up top from : ℕ) (b 
     overlap-whole n count e s =
         whole count (s ∙ ap (λ (m : ℕ). sum (rows * m * 64) (runDiffer t1 e1 t2 e2 (top * m) (from * m))) e ∙ rows-run)
 
--- the runs lie in the frames
-pub runs-in : (t1 e1 t2 e2 : List ℕ) (w h n top from : ℕ) → n ≡ rowWords w → w ≤ 4096 → h ≤ 4096 → FramesIn t1 e1 t2 e2 w h → top + from < h
-    → RunsIn t1 e1 t2 e2 (top * n) (from * n) ((h - (top + from)) * n)
-runs-in t1 e1 t2 e2 w h n top from e lw lh i l = record {
-  threshold1 = room top (length t1) (omega arith) (i .threshold1);
-  exclusion1 = room top (length e1) (omega arith) (i .exclusion1);
-  threshold2 = room from (length t2) (omega arith) (i .threshold2);
-  exclusion2 = room from (length e2) (omega arith) (i .exclusion2);
-  short = omega (arith, mul-le-mul (let a : h - (top + from) ≤ 4096 = omega arith in a) (let a : n ≤ 64 = omega (arith, row-words-le w lw) in a));
-}
+-- the words before the runs, of the runs and after them
+pub frame-words : (w h n top from : ℕ) → n ≡ rowWords w → w ≤ 4096 → h ≤ 4096 → top + from < h
+    → (top * n + from * n + (h - (top + from)) * n ≡ h * n) × ((rowWords w * h ≡ h * n) × (h * n ≤ 262144))
+frame-words w h n top from e lw lh l = (
+  omega (arith, add-mul (top + from) (h - (top + from)) n, add-mul top from n, ap (λ (m : ℕ). m * n) all),
+  (ap (λ (m : ℕ). m * h) (sym e) ∙ mul-comm n h, mul-le-mul lh (let a : n ≤ 64 = omega (arith, row-words-le w lw) in a)),
+)
   where
-    room : (first all : ℕ) → first + (h - (top + from)) ≤ h → rowWords w * h ≤ all → first * n + (h - (top + from)) * n ≤ all
-    room first all g r =
-        omega (arith, add-mul first (h - (top + from)) n, mul-le-mul-right n g, mul-comm n h, ap (λ (m : ℕ). m * h) e, r)
+    all : top + from + (h - (top + from)) ≡ h
+    all = omega arith

@@ -1,12 +1,12 @@
 -- The rows that have a partner are one run of words; if none has, nothing differs.
 use mathlib.Core.Path.{_≡_, ap, _∙_}
-use Prim.Native.Nat.{ℕ, _+_, _*_, _-_, max}
+use Prim.Native.Nat.{ℕ, _+_, _*_, _-_, _≤_, max}
 use native.Mathlib.Omega.{arith}
 use mir.Facts.{toZ-ofZ}
 use borrow.Author.Needs.{needs}
+use Rattle.rules.specs.Bitmaps.{rowWords}
 use Rattle.words.specs.Rows.{bias, biasOf}
-use Rattle.count.specs.Runs.{RunsIn}
-use Rattle.count.proofs.OverlapLaws.{overlap-none, overlap-whole, runs-in}
+use Rattle.count.proofs.OverlapLaws.{overlap-none, overlap-whole, frame-words}
 use Rattle.count.proofs.overlaps.overlap_frame.Statement.{statement}
 use Rattle.count.proofs.overlaps.overlap_frame.Tie as tie
 
@@ -31,17 +31,15 @@ top-is c = ap (λ (m : ℕ). m - bias) (c .upper .ensures)
 from-is : (c : tie.After-upper) → from c ≡ max (up c) bias - up c
 from-is c = ap (λ (m : ℕ). m - up c) (c .upper .ensures)
 
-runs : (c : tie.After-row-words)
+words : (c : tie.After-row-words)
     → let u = c .before .before in
-    let a = start u .args in
+    let h = start u .args .h in
     let n = c .row-words .result in
-    RunsIn (a .t1 .now) (a .e1 .now) (a .t2 .now) (a .e2 .now) (top u * n) (from u * n) ((a .h - (top u + from u)) * n)
-runs c =
+    (top u * n + from u * n + (h - (top u + from u)) * n ≡ h * n) × ((rowWords (start u .args .w) * h ≡ h * n) × (h * n ≤ 262144))
+words c =
     let u = c .before .before in
     let s = start u in
-    let a = s .args in
-    runs-in (a .t1 .now) (a .e1 .now) (a .t2 .now) (a .e2 .now) (a .w) (a .h) (c .row-words .result) (top u) (from u) (c .row-words .ensures) (s .pre .0) (s .pre .1 .0)
-    (s .pre .1 .1 .0) (c .before .if1 .left)
+    frame-words (s .args .w) (s .args .h) (c .row-words .result) (top u) (from u) (c .row-words .ensures) (s .pre .0) (s .pre .1 .0) (c .before .if1 .left)
 
 biased-requires : tie.Need-biased-requires
 biased-requires c κs = search needs
@@ -76,16 +74,16 @@ sub-rows : tie.Need-sub-rows
 sub-rows c = search needs
 
 mul-run-difference : tie.Need-mul-run-difference
-mul-run-difference c = omega (arith, runs c)
+mul-run-difference c = omega (arith, words c)
 
 mul-run-difference-2 : tie.Need-mul-run-difference-2
-mul-run-difference-2 c = omega (arith, runs c)
+mul-run-difference-2 c = omega (arith, words c)
 
 mul-run-difference-3 : tie.Need-mul-run-difference-3
-mul-run-difference-3 c = omega (arith, runs c)
+mul-run-difference-3 c = omega (arith, words c)
 
 run-difference-requires : tie.Need-run-difference-requires
-run-difference-requires c κs = (runs c, start (c .before .before) .pre .1 .1 .1 .1)
+run-difference-requires c κs = let s = start (c .before .before) in (omega (arith, words c, s .pre .1 .1 .0), s .pre .1 .1 .1 .1)
 
 returns-2 : tie.Need-returns-2
 returns-2 c =

@@ -1,7 +1,7 @@
 -- The seven words of differences add their bits.
-use Prim.Native.Nat.{ℕ, _+_, _≤_, _<_}
+use Prim.Native.Nat.{ℕ, _+_, _≤_}
 use native.Mathlib.Omega.{arith}
-use Rattle.count.specs.Runs.{runDiffer, RunsIn}
+use Rattle.count.specs.Runs.{runDiffer}
 use Rattle.count.proofs.RowLaws.{seven-adds}
 use Rattle.count.proofs.overlaps.run_block.Statement.{statement}
 use Rattle.count.proofs.overlaps.run_block.Tie as tie
@@ -9,48 +9,44 @@ use Rattle.count.proofs.overlaps.run_block.Tie as tie
 near : (c : tie.Start) → c .args .k + 7 ≤ 262144
 near c = omega (arith, c .pre .0, c .pre .1 .0 .short)
 
-ready : (c : tie.Start) (k : ℕ) → k < c .args .k + 7
-    → (k < c .args .len) × RunsIn (c .args .t1 .now) (c .args .e1 .now) (c .args .t2 .now) (c .args .e2 .now) (c .args .i) (c .args .x) (c .args .len)
-ready c k m = (omega (arith, c .pre .0), c .pre .1 .0)
-
 run-word-requires : tie.Need-run-word-requires
-run-word-requires c κs = let s = c .before .before .before .before in ready s (s .args .k) (omega arith)
+run-word-requires c κs = let s = c .before .before .before .before in (omega (arith, s .pre .0), s .pre .1 .0)
 
 add-run-word : tie.Need-add-run-word
 add-run-word c = omega (arith, near (c .before .before .before .before .before))
 
 run-word-requires-2 : tie.Need-run-word-requires-2
-run-word-requires-2 c κs = let s = c .before .before .before .before .before in ready s (s .args .k + 1) (omega arith)
+run-word-requires-2 c κs = let s = c .before .before .before .before .before in (omega (arith, s .pre .0), s .pre .1 .0)
 
 add-run-word-2 : tie.Need-add-run-word-2
 add-run-word-2 c = omega (arith, near (c .before .before .before .before .before .before))
 
 run-word-requires-3 : tie.Need-run-word-requires-3
-run-word-requires-3 c κs = let s = c .before .before .before .before .before .before in ready s (s .args .k + 2) (omega arith)
+run-word-requires-3 c κs = let s = c .before .before .before .before .before .before in (omega (arith, s .pre .0), s .pre .1 .0)
 
 add-run-word-3 : tie.Need-add-run-word-3
 add-run-word-3 c = omega (arith, near (c .before .before .before .before .before .before .before))
 
 run-word-requires-4 : tie.Need-run-word-requires-4
-run-word-requires-4 c κs = let s = c .before .before .before .before .before .before .before in ready s (s .args .k + 3) (omega arith)
+run-word-requires-4 c κs = let s = c .before .before .before .before .before .before .before in (omega (arith, s .pre .0), s .pre .1 .0)
 
 add-run-word-4 : tie.Need-add-run-word-4
 add-run-word-4 c = omega (arith, near (c .before .before .before .before .before .before .before .before))
 
 run-word-requires-5 : tie.Need-run-word-requires-5
-run-word-requires-5 c κs = let s = c .before .before .before .before .before .before .before .before in ready s (s .args .k + 4) (omega arith)
+run-word-requires-5 c κs = let s = c .before .before .before .before .before .before .before .before in (omega (arith, s .pre .0), s .pre .1 .0)
 
 add-run-word-5 : tie.Need-add-run-word-5
 add-run-word-5 c = omega (arith, near (c .before .before .before .before .before .before .before .before .before))
 
 run-word-requires-6 : tie.Need-run-word-requires-6
-run-word-requires-6 c κs = let s = c .before .before .before .before .before .before .before .before .before in ready s (s .args .k + 5) (omega arith)
+run-word-requires-6 c κs = let s = c .before .before .before .before .before .before .before .before .before in (omega (arith, s .pre .0), s .pre .1 .0)
 
 add-run-word-6 : tie.Need-add-run-word-6
 add-run-word-6 c = omega (arith, near (c .before .before .before .before .before .before .before .before .before .before))
 
 run-word-requires-7 : tie.Need-run-word-requires-7
-run-word-requires-7 c κs = let s = c .before .before .before .before .before .before .before .before .before .before in ready s (s .args .k + 6) (omega arith)
+run-word-requires-7 c κs = let s = c .before .before .before .before .before .before .before .before .before .before in (omega (arith, s .pre .0), s .pre .1 .0)
 
 seven-ones-requires : tie.Need-seven-ones-requires
 seven-ones-requires c κs = c .before .before .before .before .before .before .before .before .before .before .before .pre .1 .1

@@ -13,13 +13,6 @@ use Rattle.count.proofs.overlaps.run_difference.Tie as tie
 abbrev run : tie.Start → ℕ → ℕ
 run c = let a = c .args in runDiffer (a .t1 .now) (a .e1 .now) (a .t2 .now) (a .e2 .now) (a .i) (a .x)
 
-whole : (c : tie.After-run-rest)
-    → c .before .run-blocks .result + c .run-rest .result ≡ sum (c .before .before .before .before .before .before .args .len * 64) (run (c .before .before .before .before .before .before))
-whole c =
-    let s = c .before .before .before .before .before .before in
-    let b = c .before .run-blocks in
-    run-whole (run s) (s .args .len - s .args .len % 7) (s .args .len) (b .result) (c .run-rest .result) (b .ensures) (c .run-rest .ensures)
-
 sub-rest : tie.Need-sub-rest
 sub-rest c = search needs
 
@@ -28,6 +21,13 @@ run-blocks-requires c κs = search needs
 
 run-rest-requires : tie.Need-run-rest-requires
 run-rest-requires c κs = search needs
+
+whole : (c : tie.After-run-rest)
+    → c .before .run-blocks .result + c .run-rest .result ≡ sum (c .before .before .before .before .before .before .args .len * 64) (run (c .before .before .before .before .before .before))
+whole c =
+    let s = c .before .before .before .before .before .before in
+    let b = c .before .run-blocks in
+    run-whole (run s) (s .args .len - s .args .len % 7) (s .args .len) (b .result) (c .run-rest .result) (b .ensures) (c .run-rest .ensures)
 
 add-result : tie.Need-add-result
 add-result c =
