@@ -4,10 +4,9 @@ use borrow.Author.Needs.{needs}
 use mathlib.Core.Path.{_≡_, ap, _∙_}
 use Prim.Native.Nat.{_+_, _*_, _-_, _≤_}
 use lib.ListN.{drop}
-use lib.IntN.{ℤ}
 use mir.Syntax.{w32}
-use mir.Val.{SFits, toZ, ofZ}
-use mir.Facts.{toZ-ofZ, sfits-toZ, fits-ofZ}
+use mir.Val.{toZ, ofZ}
+use mir.Facts.{toZ-ofZ}
 use Rattle.rules.specs.Bitmaps.{rowWords}
 use Rattle.rules.proofs.FrameLaws.{FrameAt, frame-none, row-fits}
 use Rattle.words.proofs.MoveLaws.{bias-lt}
@@ -20,10 +19,6 @@ Inv-loop words₀ from w h dx to m y₀ words y = (y ≤ h) × FrameAt to (rowWo
 
 abbrev μ-loop : tie.MeasureT-loop
 μ-loop words₀ from w h dx to m y₀ words y = h - y
-
--- the signed move as the machine reads it
-read : {d : ℤ} → SFits w32 d → SFits w32 (toZ w32 (ofZ w32 d))
-read b = sfits-toZ (fits-ofZ b)
 
 -- the words of a row, and its place in the bitmap
 fits : (c : tie.In-loop Inv-loop μ-loop)
@@ -42,7 +37,7 @@ biased-requires c κs = search needs
 move-by-requires : tie.Need-move-by-requires Inv-loop μ-loop
 move-by-requires c κs =
     let s = c .before .before in
-    (s .pre .0, rw (c .biased .ensures) (bias-lt (toZ w32 (ofZ w32 (s .args .dx))) (read (s .fits .dx))))
+    (s .pre .0, rw (c .biased .ensures) (bias-lt _ (search needs)))
 
 loop-holds : tie.Need-loop-holds Inv-loop μ-loop
 loop-holds c = (omega arith, frame-none _ _ _ _)
@@ -76,7 +71,7 @@ loop-again c =
     let s = test .before .before .before .before .before in
     let a = s .args in (
       omega arith,
-      row-slid (a .words .now) (L .words) (row .slide-row .last .0) (a .from) (move .result) (a .w) (a .h) (a .to) (L .y) (toZ w32 (ofZ w32 (a .dx))) (read (s .fits .dx))
+      row-slid (a .words .now) (L .words) (row .slide-row .last .0) (a .from) (move .result) (a .w) (a .h) (a .to) (L .y) (toZ w32 (ofZ w32 (a .dx))) (search needs)
           (move .ensures .0) (fits test .0) (move .ensures .1 .0 ∙ test .before .before .before .biased .ensures) (s .pre .1 .1 .0) (test .loop-test .taken)
           (L .inv .1) (row .slide-row .ensures),
     )
