@@ -384,6 +384,44 @@ fn careful(
     count
 }
 
+// The words on either side of the interior, one by one. Each side has a function of its own, small
+// enough to stand in its callers, so that only rows that come here pay for lending the slices on.
+fn careful_left(
+    t1: &[u64],
+    e1: &[u64],
+    t2: &[u64],
+    e2: &[u64],
+    base: usize,
+    from: usize,
+    m: Move,
+    ones: &[u8; 256],
+) -> u32
+    requires moves { ⌜ Moves m ⌝ }
+    requires rows { ⌜ RowsIn (now t1) (now e1) (now t2) (now e2) base from (m .w) ⌝ }
+    requires table { ⌜ CountsOnes (now ones) ⌝ }
+    ensures { λ r. ⌜ Adds (movedDiffer (now (t1 .entry)) (now (e1 .entry)) (now (t2 .entry)) (now (e2 .entry)) base from m) 0 (m .first) r ⌝ }
+{
+    careful(t1, e1, t2, e2, base, from, m, 0, m.first, ones)
+}
+
+fn careful_right(
+    t1: &[u64],
+    e1: &[u64],
+    t2: &[u64],
+    e2: &[u64],
+    base: usize,
+    from: usize,
+    m: Move,
+    ones: &[u8; 256],
+) -> u32
+    requires moves { ⌜ Moves m ⌝ }
+    requires rows { ⌜ RowsIn (now t1) (now e1) (now t2) (now e2) base from (m .w) ⌝ }
+    requires table { ⌜ CountsOnes (now ones) ⌝ }
+    ensures { λ r. ⌜ Adds (movedDiffer (now (t1 .entry)) (now (e1 .entry)) (now (t2 .entry)) (now (e2 .entry)) base from m) (m .end) (m .n) r ⌝ }
+{
+    careful(t1, e1, t2, e2, base, from, m, m.end, m.n, ones)
+}
+
 // The words before the interior: for small moves none, told by one test and no call, or the first alone.
 fn left_edge(
     t1: &[u64],
@@ -406,7 +444,7 @@ fn left_edge(
     if m.first == 1 && m.q == BIAS_WORDS && WORD_BITS <= m.w {
         return first_word(t1, e1, t2, e2, base, from, m, 0, ones);
     }
-    careful(t1, e1, t2, e2, base, from, m, 0, m.first, ones)
+    careful_left(t1, e1, t2, e2, base, from, m, ones)
 }
 
 // The words after the interior of a row moved by at most a word to the left: the last one or two.
@@ -433,7 +471,7 @@ fn last_words(
         return next_to_last(t1, e1, t2, e2, base, from, m, m.end, ones)
             + last_word(t1, e1, t2, e2, base, from, m, m.end + 1, ones);
     }
-    careful(t1, e1, t2, e2, base, from, m, m.end, m.n, ones)
+    careful_right(t1, e1, t2, e2, base, from, m, ones)
 }
 
 // The words after the interior: none, those of a move by less than a word, or any.
@@ -461,7 +499,7 @@ fn right_edge(
     if m.q == BIAS_WORDS && m.end + 1 == m.n && 0 < m.end {
         return end_word(t1, e1, t2, e2, base, from, m, m.end, ones);
     }
-    careful(t1, e1, t2, e2, base, from, m, m.end, m.n, ones)
+    careful_right(t1, e1, t2, e2, base, from, m, ones)
 }
 
 // The row at `base` against the moved row at `from`.

@@ -58,10 +58,8 @@ returns-2 c =
     let e : a .m .end + 1 + 1 ≡ a .m .n = omega arith in
     rw (← e) (adds-more (row s) (a .m .end) (a .m .end + 1) (a .m .end + 1 + 1) (p .result) (c .last-word2 .result) (p .ensures) (c .last-word2 .ensures))
 
-careful-requires : tie.Need-careful-requires
-careful-requires c κs =
-    let s = c .before .before .before .before .before .before .before .before .before .before in
-    (s .pre .0, ((omega arith, omega arith), (s .pre .1 .1 .0, s .pre .1 .1 .1)))
+careful-right-requires : tie.Need-careful-right-requires
+careful-right-requires c κs = search needs
 
 returns-3 : tie.Need-returns-3
 returns-3 c = search needs
@@ -79,5 +77,5 @@ last-words-spec =
     last-word-requires-2
     add-result
     returns-2
-    careful-requires
+    careful-right-requires
     returns-3)

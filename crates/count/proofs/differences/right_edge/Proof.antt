@@ -42,10 +42,8 @@ returns-3 c =
     let e : a .m .end + 1 ≡ a .m .n = eqb-true (a .m .end + 1) (a .m .n) (c .before .before .before .if4 .taken) in
     rw (← e) (c .end-word .ensures)
 
-careful-requires : tie.Need-careful-requires
-careful-requires c κs =
-    let s = c .before .before .before .before .before .before .before .before .before .before in
-    (s .pre .0, ((omega (arith, s .pre .0), omega arith), (s .pre .1 .0, s .pre .1 .1)))
+careful-right-requires : tie.Need-careful-right-requires
+careful-right-requires c κs = search needs
 
 returns-4 : tie.Need-returns-4
 returns-4 c = search needs
@@ -61,5 +59,5 @@ right-edge-spec =
     add-if4
     end-word-requires
     returns-3
-    careful-requires
+    careful-right-requires
     returns-4)

@@ -1,0 +1,16 @@
+-- The words after the interior are words of the row.
+use native.Mathlib.Omega.{arith}
+use borrow.Author.Needs.{needs}
+use Rattle.count.proofs.differences.careful_right.Statement.{statement}
+use Rattle.count.proofs.differences.careful_right.Tie as tie
+
+careful-requires : tie.Need-careful-requires
+careful-requires c κs =
+    let s = c .before .before .before .before in
+    (s .pre .0, ((omega (arith, s .pre .0), omega arith), (s .pre .1 .0, s .pre .1 .1)))
+
+returns : tie.Need-returns
+returns c = search needs
+
+pub careful-right-spec : {M : Type 1} → statement M
+careful-right-spec = tie.close (tie.spec careful-requires returns)
