@@ -5,5 +5,4 @@ pub mod RowLaws
 pub mod AdderLaws
 pub mod MovedLaws
 pub mod DifferLaws
-pub mod OverlapLaws
 pub mod AnswerLaws

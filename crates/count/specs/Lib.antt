@@ -1,4 +1,3 @@
 -- Definitions that the cores' contracts cite.
 pub mod Ones
 pub mod Rows
-pub mod Runs

@@ -3,7 +3,6 @@
 pub mod adder;
 pub mod differences;
 pub mod ones;
-pub mod overlaps;
 pub mod totals;
 
 use differences::difference_frame;

@@ -17,7 +17,7 @@ use Rattle.rules.proofs.OffsetLaws.{Near, near-add}
 use Rattle.rules.proofs.LevelLaws.{candidateAt, stepOf, candidate-is}
 use Rattle.rules.proofs.SignedLaws.{bits-are}
 use Rattle.candidates.proofs.LeadingLaws.{step-near}
-use Rattle.count.specs.Runs.{Clean}
+use Rattle.overlap.specs.Runs.{Clean}
 
 -- a list from place n on, as it is lent
 abbrev lentFrom : ℕ → List ℕ → List ℕ

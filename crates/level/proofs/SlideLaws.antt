@@ -19,7 +19,7 @@ use Rattle.rules.proofs.SumLaws.{gate-zero, gate-small, pixels-ext}
 use Rattle.rules.proofs.FrameLaws.{FrameAt}
 use Rattle.rules.proofs.DifferenceLaws.{within-ext, difference-ext}
 use Rattle.words.proofs.BitLaws.{bit-lt}
-use Rattle.count.specs.Runs.{Clean}
+use Rattle.overlap.specs.Runs.{Clean}
 use Rattle.slide.proofs.SlideLaws.{slidBitmap, within-here}
 use Rattle.level.specs.Places.{slid, SlidAt, KeptTo, wordsCount}
 use Rattle.level.proofs.PlaneLaws.{bits-written, bits-packed, bits-kept}

@@ -12,7 +12,7 @@ use Rattle.rules.specs.Levels.{byTolerance, planesBy}
 use Rattle.rules.specs.Calls.{planesOf}
 use Rattle.rules.specs.declared.Offset.{Offset}
 use Rattle.rules.proofs.DifferenceLaws.{SamePlanes}
-use Rattle.count.specs.Runs.{Clean}
+use Rattle.overlap.specs.Runs.{Clean}
 
 -- the two planes of the frame whose bitmaps begin at place `to`
 abbrev pub planesAt : ℕ → ℕ → ℕ → List ℕ → Planes

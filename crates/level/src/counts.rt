@@ -2,7 +2,7 @@
 
 use crate::bitmaps::bitmap_words;
 use candidates::candidate;
-use count::overlaps::overlap_frame;
+use overlap::overlap_frame;
 use rules::Offset;
 use slide::slide_within;
 ghost use mathlib.Core.Path.{_≡_};

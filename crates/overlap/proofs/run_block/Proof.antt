@@ -1,10 +1,10 @@
 -- The seven words of differences add their bits.
 use Prim.Native.Nat.{ℕ, _+_, _≤_}
 use native.Mathlib.Omega.{arith}
-use Rattle.count.specs.Runs.{runDiffer}
+use Rattle.overlap.specs.Runs.{runDiffer}
 use Rattle.count.proofs.RowLaws.{seven-adds}
-use Rattle.count.proofs.overlaps.run_block.Statement.{statement}
-use Rattle.count.proofs.overlaps.run_block.Tie as tie
+use Rattle.overlap.proofs.run_block.Statement.{statement}
+use Rattle.overlap.proofs.run_block.Tie as tie
 
 near : (c : tie.Start) → c .args .k + 7 ≤ 262144
 near c = omega (arith, c .pre .0, c .pre .1 .0 .short)

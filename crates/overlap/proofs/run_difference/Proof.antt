@@ -4,11 +4,11 @@ use Prim.Native.Nat.{ℕ, _+_, _*_, _-_, _%_}
 use native.Mathlib.Omega.{arith}
 use borrow.Author.Needs.{needs}
 use Rattle.rules.specs.Sums.{sum}
-use Rattle.count.specs.Runs.{runDiffer}
+use Rattle.overlap.specs.Runs.{runDiffer}
 use Rattle.count.proofs.RowLaws.{bits-le}
-use Rattle.count.proofs.OverlapLaws.{runDiffer-lt, run-whole}
-use Rattle.count.proofs.overlaps.run_difference.Statement.{statement}
-use Rattle.count.proofs.overlaps.run_difference.Tie as tie
+use Rattle.overlap.proofs.OverlapLaws.{runDiffer-lt, run-whole}
+use Rattle.overlap.proofs.run_difference.Statement.{statement}
+use Rattle.overlap.proofs.run_difference.Tie as tie
 
 abbrev run : tie.Start → ℕ → ℕ
 run c = let a = c .args in runDiffer (a .t1 .now) (a .e1 .now) (a .t2 .now) (a .e2 .now) (a .i) (a .x)

@@ -1,8 +1,8 @@
 -- The exclusive-or of the thresholds, kept where both exclusion bits are 1, bit by bit.
 use borrow.Author.Needs.{needs}
-use Rattle.count.proofs.OverlapLaws.{run-word}
-use Rattle.count.proofs.overlaps.run_word.Statement.{statement}
-use Rattle.count.proofs.overlaps.run_word.Tie as tie
+use Rattle.overlap.proofs.OverlapLaws.{run-word}
+use Rattle.overlap.proofs.run_word.Statement.{statement}
+use Rattle.overlap.proofs.run_word.Tie as tie
 
 add-result : tie.Need-add-result
 add-result c = search needs

@@ -6,9 +6,9 @@ use mir.Facts.{toZ-ofZ}
 use borrow.Author.Needs.{needs}
 use Rattle.rules.specs.Bitmaps.{rowWords}
 use Rattle.words.specs.Rows.{bias, biasOf}
-use Rattle.count.proofs.OverlapLaws.{overlap-none, overlap-whole, frame-words}
-use Rattle.count.proofs.overlaps.overlap_frame.Statement.{statement}
-use Rattle.count.proofs.overlaps.overlap_frame.Tie as tie
+use Rattle.overlap.proofs.OverlapLaws.{overlap-none, overlap-whole, frame-words}
+use Rattle.overlap.proofs.overlap_frame.Statement.{statement}
+use Rattle.overlap.proofs.overlap_frame.Tie as tie
 
 abbrev start : tie.After-upper → tie.Start
 start c = c .before .before .before .before .before .before

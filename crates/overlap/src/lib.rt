@@ -1,10 +1,10 @@
 // The difference count of two frames that are moved against each other by whole rows only: one run of
 // words of the first against one of the second.
 
-use crate::adder::seven_ones;
-use crate::differences::BIAS;
-use crate::differences::upper;
-use crate::ones::word_ones;
+use count::adder::seven_ones;
+use count::differences::BIAS;
+use count::differences::upper;
+use count::ones::word_ones;
 use refusals::row_words;
 use words::biased;
 ghost use mathlib.Core.Path.{_≡_};
@@ -15,9 +15,9 @@ ghost use Rattle.rules.specs.Sums.{sum};
 ghost use Rattle.rules.specs.Differences.{difference};
 ghost use Rattle.rules.specs.Calls.{planesOf};
 ghost use Rattle.words.specs.Rows.{WordOf};
 ghost use Rattle.count.specs.Ones.{CountsOnes};
 ghost use Rattle.count.specs.Rows.{Adds, FramesIn};
-ghost use Rattle.count.specs.Runs.{runDiffer, RunsIn, Clean};
+ghost use Rattle.overlap.specs.Runs.{runDiffer, RunsIn, Clean};
 
 // The pixels at which word k of the two runs differs.
 fn run_word(

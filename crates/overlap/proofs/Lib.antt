@@ -1,0 +1,2 @@
+-- Laws of counting over runs of words.
+pub mod OverlapLaws
