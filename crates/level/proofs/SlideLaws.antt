@@ -106,10 +106,10 @@ module _ (w h : ℕ) (dx : ℤ) (from to : ℕ) (before after : List ℕ) (apart
 module _ (w h : ℕ) (dx : ℤ) (before mid after : List ℕ)
     (thresholds : FrameAt (4 * (rowWords w * h)) (rowWords w) (slidBitmap w h dx (drop (2 * (rowWords w * h)) before)) before h mid)
     (exclusions : FrameAt (5 * (rowWords w * h)) (rowWords w) (slidBitmap w h dx (drop (3 * (rowWords w * h)) mid)) mid h after) where
-  pub both-kept : KeptTo (4 * (rowWords w * h)) before after
+  both-kept : KeptTo (4 * (rowWords w * h)) before after
   both-kept = record { len = exclusions .len ∙ thresholds .len; under = λ m l. exclusions .under m (omega arith) ∙ thresholds .under m l }
 
-  pub both-slid : SlidAt w h dx after
+  both-slid : SlidAt w h dx after
   both-slid = record {
     planes = record {
       thresholds = slid-bits w h dx (2 * (rowWords w * h)) (4 * (rowWords w * h)) before mid (omega arith) thresholds after (λ m l. exclusions .under m (omega arith));
@@ -117,6 +117,16 @@ module _ (w h : ℕ) (dx : ℤ) (before mid after : List ℕ)
     };
     clean = slid-clean w h dx (3 * (rowWords w * h)) (5 * (rowWords w * h)) mid after (omega arith) exclusions;
   }
+
+-- The same with a bitmap's size and the move as the code has them.
+pub slid-second : (w h n : ℕ) (d dx : ℤ) (before mid after : List ℕ) → n ≡ rowWords w * h → d ≡ dx
+    → FrameAt (4 * n) (rowWords w) (slidBitmap w h d (drop (2 * n) before)) before h mid
+    → FrameAt (5 * n) (rowWords w) (slidBitmap w h d (drop (3 * n) mid)) mid h after
+    → KeptTo (4 * (rowWords w * h)) before after × SlidAt w h dx after
+slid-second w h n d dx before mid after size move one two =
+    let thresholds = rw (size, move) at one in
+    let exclusions = rw (size, move) at two in
+    (both-kept w h dx before mid after thresholds exclusions, both-slid w h dx before mid after thresholds exclusions)
 
 -- The count against the slid frame, at an offset with the slide's dx.
 pub slid-count : (w h : ℕ) (words : List ℕ) (m : Offset) → SlidAt w h (m .dx) words

@@ -1,12 +1,13 @@
 -- The invariant: the counts of the first i columns are written, and the four bitmaps are as they were.
-use mathlib.Core.Path.{_≡_, refl, _∙_}
+use mathlib.Core.Path.{_≡_, refl, subst, _∙_}
 use Prim.Native.Nat.{_+_, _*_, _-_, _≤_, _<_}
+use lib.IntN.{ℤ}
 use lib.ListN.{length}
 use Rattle.rules.specs.Bitmaps.{rowWords}
 use Rattle.rules.proofs.FrameLaws.{RowAt, row-none}
 use Rattle.rules.proofs.LevelLaws.{candidateAt}
 use Rattle.frame.proofs.PlaceLaws.{row-join}
-use Rattle.level.specs.Places.{KeptTo, wordsCount}
+use Rattle.level.specs.Places.{KeptTo, SlidAt, wordsCount}
 use Rattle.level.specs.Choices.{nineOf, columnOf}
 use Rattle.level.proofs.CountLaws.{candidate-dx}
 use Rattle.level.proofs.SlideLaws.{count-kept}
@@ -53,9 +54,10 @@ three-counts-requires c κs =
     let m = c .before .before .before .before .before .before .before .candidate in
     let slide = c .before .before .before .before .slide-second in
     let less : l .i < 3 = c .before .before .before .before .before .before .before .before .loop-test .taken in
+    let slid = subst (λ (dx : ℤ). SlidAt (a .w) (a .h) dx (slide .last .0)) (candidate-dx (a .centre) (m .result) (3 * l .i) (omega arith) (p .1 .1 .0) (m .ensures)) (slide .ensures .1) in
     let room : 6 * (rowWords (a .w) * a .h) ≤ length (slide .last .0) = omega (arith, slide .ensures .0 .len, l .inv .1 .0 .len, p .1 .0) in
     let there : a .at + 3 * l .i + 3 ≤ length (l .counts) = omega (arith, l .inv .1 .1 .len, p .1 .1 .1 .0) in
-    (p .0, (room, (p .1 .1 .0, (less, (rw (candidate-dx (a .centre) (m .result) (3 * l .i) (omega arith) (p .1 .1 .0) (m .ensures)) at (slide .ensures .1), (there, p .1 .1 .1 .1))))))
+    (p .0, (room, (p .1 .1 .0, (less, (slid, (there, p .1 .1 .1 .1))))))
 
 add-i : tie.Need-add-i Inv-loop μ-loop
 add-i c = search needs

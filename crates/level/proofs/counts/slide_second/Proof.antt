@@ -1,7 +1,8 @@
 -- The second slide leaves what the first wrote, and both leave the four bitmaps.
-use lib.IntN.{ℤ}
+use mir.Syntax.{w32}
+use mir.Val.{toZ, ofZ}
 use mir.Facts.{toZ-ofZ}
-use Rattle.level.proofs.SlideLaws.{both-kept, both-slid}
+use Rattle.level.proofs.SlideLaws.{slid-second}
 use borrow.Author.Needs.{needs}
 use Rattle.level.proofs.counts.slide_second.Statement.{statement}
 use Rattle.level.proofs.counts.slide_second.Tie as tie
@@ -35,14 +36,9 @@ returns c =
     let s = c .before .before .before .before .before .before .before .before .before .before in
     let a = s .args in
     let b = c .before .before .before .before .before .before .before .before .bitmap-words in
-    let dx : ℤ = a .dx in
     let one = c .before .before .before .before .before .before .slide-within in
     let two = c .before .before .slide-within2 in
-    let thresholds = rw (b .ensures, toZ-ofZ (s .fits .dx)) at (one .ensures) in
-    let exclusions = rw (b .ensures, toZ-ofZ (s .fits .dx)) at (two .ensures) in (
-      both-kept (a .w) (a .h) dx (a .words .now) (one .last .0) (two .last .0) thresholds exclusions,
-      both-slid (a .w) (a .h) dx (a .words .now) (one .last .0) (two .last .0) thresholds exclusions,
-    )
+    slid-second (a .w) (a .h) (b .result) (toZ w32 (ofZ w32 (a .dx))) (a .dx) (a .words .now) (one .last .0) (two .last .0) (b .ensures) (toZ-ofZ (s .fits .dx)) (one .ensures) (two .ensures)
 
 pub slide-second-spec : {M : Type 1} → statement M
 slide-second-spec =
