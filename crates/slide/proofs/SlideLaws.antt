@@ -232,7 +232,7 @@ row-drop words from base w x =
     let e : from + base + x / 64 ≡ from + (base + x / 64) = omega arith in
     ap (λ (v : ℕ). gate (ltb x w) (bit v (x % 64))) (ap (λ (j : ℕ). getD words j 0) e ∙ sym (getD-drop from words (base + x / 64) 0))
 
-within-here : (n y : ℕ) (f : ℕ → ℕ) → y < n → within n (pos y -ℤ pos 0) f ≡ f y
+pub within-here : (n y : ℕ) (f : ℕ → ℕ) → y < n → within n (pos y -ℤ pos 0) f ≡ f y
 unfolding within
 within-here n y f l = ap (λ (z : ℕ). gate (ltb z n) (f z)) (add-zero y) ∙ gate-lt y n (f y) l
 
