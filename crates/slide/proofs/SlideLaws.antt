@@ -102,7 +102,7 @@ part-more before mid from w d to first k v apart l room a e =
 
 -- ---- all rows as one
 
--- full words of a row of full words
+-- the words of a row of n full words
 pub long-words : (n : ℕ) → rowWords (n * 64) ≡ n
 unfolding rowWords
 long-words n = omega arith
@@ -190,7 +190,7 @@ pub column-more : (before mid : List ℕ) (from : ℕ) (m : Move) (h to k y v : 
 column-more before mid from m h to k y v n apart room b l a e = record {
   len = length-set mid (to + (y * m .n + k)) v ∙ a .len;
   done = λ x z g j i. ⊎-elim (old x z g j) (new x z g j i) (order z y);
-  kept = λ i p. getD-set-other mid (to + (y * m .n + k)) i v 0 (λ q. p k y (omega arith) (omega arith) (omega arith) q)
+  kept = λ i p. getD-set-other mid (to + (y * m .n + k)) i v 0 (p k y (omega arith) (omega arith) (omega arith))
       ∙ a .kept i (λ x z g j c q. p x z g j (omega arith) q);
 }
   where
@@ -236,7 +236,7 @@ columns-more before mid after from m h to first k n apart l b a r = record {
 -- ---- all rows
 
 -- the bitmap moved to the right by dx, as document 01 has it
-abbrev pub slidBitmap : ℕ → ℕ → ℤ → List ℕ → Frame
+abbrev slidBitmap : ℕ → ℕ → ℤ → List ℕ → Frame
 slidBitmap w h dx words = wordOf w (shifted w h dx (pos 0) (bitAt w h words))
 
 row-drop : (words : List ℕ) (from base w x : ℕ) → rowBit words (from + base) w x ≡ rowBit (drop from words) base w x
@@ -275,7 +275,7 @@ frame-slid before mid late after from m w h to dx b v ew ed apart a l r = record
   len = r .len ∙ l .len ∙ a .len;
   under = under;
   done = λ x z g j. ⊎-elim (left x z g j) (λ (o : m .first ≤ x). ⊎-elim (inner x z g j o) (right x z g j) (order x (m .end))) (order x (m .first)) ∙ bitmap x z j;
-  over = λ i j. over i j;
+  over = over;
 }
   where
     n : ℕ
@@ -293,11 +293,8 @@ frame-slid before mid late after from m w h to dx b v ew ed apart a l r = record
     over : (i : ℕ) → to + h * n ≤ i → getD after i 0 ≡ getD before i 0
     over i j =
         r .kept i (λ k z g o c e. past i k z j o c e)
-        ∙ l .kept i (λ k z g o c e. past i k z j (let d = firsts in omega (arith, v .ends)) c e)
+        ∙ l .kept i (λ k z g o c e. past i k z j (omega (arith, v)) c e)
         ∙ a .over i j
-      where
-        firsts : m .first ≤ m .end
-        firsts = omega (arith, v)
 
     left : (x z : ℕ) → x < n → z < h → x < m .first → getD after (to + (z * n + x)) 0 ≡ slidRows before from m x z
     left x z g j o =
