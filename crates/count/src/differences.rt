@@ -21,7 +21,7 @@ ghost use Rattle.count.specs.Rows.{Adds, movedDiffer, lineDiffer, Moves,
 const WORD_BITS: usize = 64;
 
 // 2^31: moves are counted from the least signed 32-bit number, so that none is negative.
-const BIAS: usize = 2147483648;
+pub const BIAS: usize = 2147483648;
 
 // 2^31 / 64
 const BIAS_WORDS: usize = 33554432;

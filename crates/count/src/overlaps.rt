@@ -2,6 +2,7 @@
 // words of the first against one of the second.
 
 use crate::adder::seven_ones;
+use crate::differences::BIAS;
 use crate::differences::upper;
 use crate::ones::word_ones;
 use refusals::row_words;
@@ -17,9 +18,6 @@ ghost use Rattle.words.specs.Rows.{WordOf};
 ghost use Rattle.count.specs.Ones.{CountsOnes};
 ghost use Rattle.count.specs.Rows.{Adds, FramesIn};
 ghost use Rattle.count.specs.Runs.{runDiffer, RunsIn, Clean};
-
-// 2^31: moves are counted from the least signed 32-bit number, so that none is negative.
-const BIAS: usize = 2147483648;
 
 // The pixels at which word k of the two runs differs.
 fn run_word(
