@@ -1,16 +1,16 @@
 -- The invariant: the words from `first` up to k are written, and nothing else has changed.
 use mathlib.Core.Path.{_≡_}
-use Prim.Native.Nat.{_+_, _-_, _≤_}
+use Prim.Native.Nat.{_+_, _*_, _-_, _≤_}
 use native.Mathlib.Omega.{arith}
 use borrow.Author.Needs.{needs}
 use Rattle.rules.proofs.FrameLaws.{RowAt}
 use Rattle.slide.specs.Slides.{slidFrom}
-use Rattle.slide.proofs.SlideLaws.{part-none, word-more}
+use Rattle.slide.proofs.SlideLaws.{part-none, part-more}
 use Rattle.slide.proofs.slide_edge.Statement.{statement}
 use Rattle.slide.proofs.slide_edge.Tie as tie
 
 abbrev Inv-loop : tie.InvT-loop
-Inv-loop words₀ from m to first end k₀ words k = (first ≤ k) × ((k ≤ end) × RowAt (to + first) (slidFrom words₀ from m first) words₀ (k - first) words)
+Inv-loop words₀ from m to first end k₀ words k = (first ≤ k) × ((k ≤ end) × RowAt (to + first) (slidFrom words₀ from (m .w) (m .q * 64 + m .r) first) words₀ (k - first) words)
 
 abbrev μ-loop : tie.MeasureT-loop
 μ-loop words₀ from m to first end k₀ words k = end - k
@@ -18,7 +18,7 @@ abbrev μ-loop : tie.MeasureT-loop
 loop-holds : tie.Need-loop-holds Inv-loop μ-loop
 loop-holds c =
     let a = c .before .args in
-    (omega arith, (omega arith, part-none (a .words .now) (a .from) (a .m) (a .to) (a .first)))
+    (omega arith, (omega arith, part-none (a .words .now) (a .from) (a .m .w) (a .m .q * 64 + a .m .r) (a .to) (a .first)))
 
 edge-word-requires : tie.Need-edge-word-requires Inv-loop μ-loop
 edge-word-requires c κs = search needs
@@ -46,7 +46,7 @@ loop-again c =
       omega arith,
       (
         omega arith,
-        word-more (a .words .now) (L .words) (a .from) (a .m) (a .to) (a .first) (L .k) (c .edge-word .result) (s .pre .0 .row) (omega arith) (L .inv .0) (omega arith)
+        part-more (a .words .now) (L .words) (a .from) (a .m .w) (a .m .q * 64 + a .m .r) (a .to) (a .first) (L .k) (c .edge-word .result) (omega (arith, s .pre .0)) (L .inv .0) (omega arith)
             (L .inv .1 .1) (c .edge-word .ensures),
       ),
     )
