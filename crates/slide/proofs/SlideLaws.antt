@@ -1,5 +1,5 @@
 -- Laws of rows moved sideways inside the memory that they lie in: the source ends at or before the result's place, so what is written there leaves it as it was.
-use mathlib.Core.Path.{_≡_, refl, sym, ap, _∙_}
+use mathlib.Core.Path.{_≡_, sym, ap, ap₂, _∙_}
 use mathlib.Core.Logic.{⊎-elim}
 use mathlib.Core.List.{List}
 use Prim.Native.Nat.{ℕ, suc, _+_, _*_, _-_, _/_, _%_, _^_, _≤_, _<_}
@@ -7,8 +7,8 @@ use native.Mathlib.Nat.{add-zero, mul-comm, mul-le-mul-right, suc-mul}
 use native.Mathlib.Omega.{arith}
 use lib.Arith.{digits-mod}
 use lib.Dec.{ltb}
-use lib.ListN.{length, getD, drop, set}
-use lib.Seq.{getD-drop}
+use lib.ListN.{length, getD, drop, set, length-set}
+use lib.Seq.{getD-drop, getD-set-same, getD-set-other}
 use lib.IntN.{ℤ, pos, _-ℤ_}
 use mir.Syntax.{w32}
 use mir.Val.{SFits}
@@ -178,46 +178,59 @@ columns-under : (to n : ℕ) (f : Frame) (first end : ℕ) (before : List ℕ) (
     → (i : ℕ) → i < to → getD after i 0 ≡ getD before i 0
 columns-under to n f first end before y after a i l = a .kept i (λ k z g j c e. omega arith)
 
-pub columns-none : (to n : ℕ) (f : Frame) (first end : ℕ) (before : List ℕ) → Columns to n f first end before 0 before
-columns-none to n f first end before = record { len = refl; done = λ k z g j i. absurd (omega arith); kept = λ i p. refl }
+-- a place has one row and one word
+place-one : (n k z x y : ℕ) → k < n → x < n → z * n + k ≡ y * n + x → k ≡ x
+place-one n k z x y l m e = sym (digits-mod z l) ∙ ap (λ (j : ℕ). j % n) e ∙ digits-mod y m
 
--- one row more, read after the rows above it were written
-pub columns-more : (before mid after : List ℕ) (from : ℕ) (m : Move) (h to first end y : ℕ) → m .n ≡ rowWords (m .w) → from + m .n * h ≤ to → end ≤ m .n → y < h
-    → Columns to (m .n) (slidRows before from m) first end before y mid
-    → RowAt (to + y * m .n + first) (slidFrom mid (from + y * m .n) (m .w) (m .q * 64 + m .r) first) mid (end - first) after
-    → Columns to (m .n) (slidRows before from m) first end before (y + 1) after
-columns-more before mid after from m h to first end y n apart ends l a r = record {
-  len = r .len ∙ a .len;
-  done = λ k z g j i. ⊎-elim (old k z g j) (new k z g j i) (order z y);
-  kept = λ i p. same i p ∙ a .kept i (λ k z g j c e. p k z g j (omega arith) e);
+-- one row more of a column, read after the rows above it were written
+pub column-more : (before mid : List ℕ) (from : ℕ) (m : Move) (h to k y v : ℕ) → m .n ≡ rowWords (m .w) → from + m .n * h ≤ to → to + m .n * h ≤ length before → k < m .n → y < h
+    → Columns to (m .n) (slidRows before from m) k (k + 1) before y mid → v ≡ slidRows mid from m k y
+    → Columns to (m .n) (slidRows before from m) k (k + 1) before (y + 1) (set mid (to + (y * m .n + k)) v)
+column-more before mid from m h to k y v n apart room b l a e = record {
+  len = length-set mid (to + (y * m .n + k)) v ∙ a .len;
+  done = λ x z g j i. ⊎-elim (old x z g j) (new x z g j i) (order z y);
+  kept = λ i p. getD-set-other mid (to + (y * m .n + k)) i v 0 (λ q. p k y (omega arith) (omega arith) (omega arith) q)
+      ∙ a .kept i (λ x z g j c q. p x z g j (omega arith) q);
 }
   where
-    old : (k z : ℕ) → first ≤ k → k < end → z < y → getD after (to + (z * m .n + k)) 0 ≡ slidRows before from m k z
-    old k z g j i =
-        r .under (to + (z * m .n + k)) (let b = mul-le-mul-right {m = suc z} {n = y} (m .n) i in let c = suc-mul z (m .n) in omega arith) ∙ a .done k z g j i
+    old : (x z : ℕ) → k ≤ x → x < k + 1 → z < y → getD (set mid (to + (y * m .n + k)) v) (to + (z * m .n + x)) 0 ≡ slidRows before from m x z
+    old x z g j i =
+        let c = mul-le-mul-right {m = suc z} {n = y} (m .n) i in
+        let d = suc-mul z (m .n) in
+        getD-set-other mid (to + (y * m .n + k)) (to + (z * m .n + x)) v 0 (omega arith) ∙ a .done x z g j i
 
-    new : (k z : ℕ) → first ≤ k → k < end → z < y + 1 → y ≤ z → getD after (to + (z * m .n + k)) 0 ≡ slidRows before from m k z
-    new k z g j i o =
+    new : (x z : ℕ) → k ≤ x → x < k + 1 → z < y + 1 → y ≤ z → getD (set mid (to + (y * m .n + k)) v) (to + (z * m .n + x)) 0 ≡ slidRows before from m x z
+    new x z g j i o =
+        let c : x ≡ k = omega arith in
         let d : z ≡ y = omega arith in
-        let p : to + (y * m .n + k) ≡ to + y * m .n + first + (k - first) = omega arith in
-        let q : first + (k - first) ≡ k = omega arith in
-        ap (λ (x : ℕ). getD after (to + (x * m .n + k)) 0) d
-        ∙ ap (λ (x : ℕ). getD after x 0) p
-        ∙ r .done (k - first) (omega arith)
-        ∙ ap (λ (x : ℕ). slidRows mid from m x y) q
-        ∙ rows-under before mid from m h to k y n apart l (columns-under to (m .n) (slidRows before from m) first end before y mid a)
-        ∙ ap (slidRows before from m k) (sym d)
+        let f = row-fits (m .n) h y l in
+        let u = a .len in
+        ap₂ (λ (s t : ℕ). getD (set mid (to + (y * m .n + k)) v) (to + (t * m .n + s)) 0) c d
+        ∙ getD-set-same mid (to + (y * m .n + k)) v 0 (omega arith)
+        ∙ e
+        ∙ rows-under before mid from m h to k y n apart l (columns-under to (m .n) (slidRows before from m) k (k + 1) before y mid a)
+        ∙ ap₂ (slidRows before from m) (sym c) (sym d)
 
-    same : (i : ℕ) → ((k z : ℕ) → first ≤ k → k < end → z < y + 1 → i ≡ to + (z * m .n + k) → ⊥) → getD after i 0 ≡ getD mid i 0
-    same i p =
-        ⊎-elim
-        (λ (g : i < to + y * m .n + first). r .under i g)
-        (λ (g : to + y * m .n + first ≤ i).
-        ⊎-elim
-        (λ (j : i < to + y * m .n + end). absurd (p (i - (to + y * m .n)) y (omega arith) (omega arith) (omega arith) (omega arith)))
-        (λ (j : to + y * m .n + end ≤ i). r .over i (omega arith))
-        (order i (to + y * m .n + end)))
-        (order i (to + y * m .n + first))
+-- one column more
+pub columns-more : (before mid after : List ℕ) (from : ℕ) (m : Move) (h to first k : ℕ) → m .n ≡ rowWords (m .w) → from + m .n * h ≤ to → first ≤ k → k < m .n
+    → Columns to (m .n) (slidRows before from m) first k before h mid
+    → Columns to (m .n) (slidRows mid from m) k (k + 1) mid h after
+    → Columns to (m .n) (slidRows before from m) first (k + 1) before h after
+columns-more before mid after from m h to first k n apart l b a r = record {
+  len = r .len ∙ a .len;
+  done = λ x z g j i. ⊎-elim (old x z g i) (new x z j i) (order x k);
+  kept = λ i p. r .kept i (λ x z g j c e. p x z (omega arith) j c e) ∙ a .kept i (λ x z g j c e. p x z g (omega arith) c e);
+}
+  where
+    old : (x z : ℕ) → first ≤ x → z < h → x < k → getD after (to + (z * m .n + x)) 0 ≡ slidRows before from m x z
+    old x z g i o =
+        r .kept (to + (z * m .n + x)) (λ s t p q c e. let d = place-one (m .n) s t x z (omega arith) (omega arith) (omega arith) in omega arith)
+        ∙ a .done x z g o i
+
+    new : (x z : ℕ) → x < k + 1 → z < h → k ≤ x → getD after (to + (z * m .n + x)) 0 ≡ slidRows before from m x z
+    new x z j i o =
+        r .done x z o j i
+        ∙ rows-under before mid from m h to x z n apart i (columns-under to (m .n) (slidRows before from m) first k before h mid a)
 
 -- ---- all rows
 
@@ -249,10 +262,6 @@ module _ (words : List ℕ) (w h y : ℕ) (dx : ℤ) (b : SFits w32 dx) (l : y <
   word-slid : (k : ℕ) → slidWord words (y * rowWords w) w (biasOf dx) k ≡ slidBitmap w h dx words k y
   unfolding slidWord wordOf
   word-slid k = λ j. word (λ i. gate (ltb (k * 64 + i) w) (pixel-slid (k * 64 + i) j))
-
--- a place has one row and one word
-place-one : (n k z x y : ℕ) → k < n → x < n → z * n + k ≡ y * n + x → k ≡ x
-place-one n k z x y l m e = sym (digits-mod z l) ∙ ap (λ (j : ℕ). j % n) e ∙ digits-mod y m
 
 -- the interiors and the columns before and after them make up the frame
 pub frame-slid : (before mid late after : List ℕ) (from : ℕ) (m : Move) (w h to : ℕ) (dx : ℤ) → SFits w32 dx → Moves m

@@ -34,18 +34,19 @@ fn edge_word(words: &[u64], from: usize, m: Move, k: usize) -> u64
     keep_low(v, m.w - k * WORD_BITS)
 }
 
-// The words from `first` up to `end` of the row at `to`.
-fn slide_edge(words: &mut [u64], from: usize, m: Move, to: usize, first: usize, end: usize)
+// Word k of every row. What it is made of is the same for all rows, so the compiler tests it once.
+fn slide_column(words: &mut [u64], from: usize, m: Move, h: usize, to: usize, k: usize)
     requires moves { ⌜ Moves m ⌝ }
-    requires span { ⌜ (first ≤ end) × (end ≤ m .n) ⌝ }
-    requires apart { ⌜ from + m .n ≤ to ⌝ }
-    requires room { ⌜ to + m .n ≤ length (now words) ⌝ }
-    ensures { λ _. ⌜ RowAt (to + first) (slidFrom (now (words .entry)) from (m .w) (m .q * wordBits + m .r) first) (now (words .entry)) (end - first) (now (words .exit)) ⌝ }
+    requires here { ⌜ k < m .n ⌝ }
+    requires apart { ⌜ from + m .n * h ≤ to ⌝ }
+    requires room { ⌜ to + m .n * h ≤ length (now words) ⌝ }
+    ensures { λ _. ⌜ Columns to (m .n) (slidRows (now (words .entry)) from m) k (k + 1) (now (words .entry)) h (now (words .exit)) ⌝ }
 {
-    let mut k = first;
-    while k < end {
-        words[to + k] = edge_word(words, from, m, k);
-        k += 1;
+    let mut y: usize = 0;
+    while y < h {
+        let row = y * m.n;
+        words[to + (row + k)] = edge_word(words, from + row, m, k);
+        y += 1;
     }
 }
 
@@ -65,11 +66,10 @@ fn slide_columns(
     requires room { ⌜ to + m .n * h ≤ length (now words) ⌝ }
     ensures { λ _. ⌜ Columns to (m .n) (slidRows (now (words .entry)) from m) first end (now (words .entry)) h (now (words .exit)) ⌝ }
 {
-    let mut y: usize = 0;
-    while y < h {
-        let row = y * m.n;
-        slide_edge(words, from + row, m, to + row, first, end);
-        y += 1;
+    let mut k = first;
+    while k < end {
+        slide_column(words, from, m, h, to, k);
+        k += 1;
     }
 }
 
