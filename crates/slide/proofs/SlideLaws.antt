@@ -1,13 +1,14 @@
 -- Laws of rows moved sideways inside the memory that they lie in: the source ends at or before the result's place, so what is written there leaves it as it was.
-use mathlib.Core.Path.{_≡_, sym, ap, _∙_}
+use mathlib.Core.Path.{_≡_, sym, ap, ap₂, _∙_}
 use mathlib.Core.Logic.{⊎-elim}
 use mathlib.Core.List.{List}
-use Prim.Native.Nat.{ℕ, _+_, _*_, _-_, _/_, _%_, _^_, _≤_, _<_}
-use native.Mathlib.Nat.{add-zero}
+use Prim.Native.Nat.{ℕ, suc, _+_, _*_, _-_, _/_, _%_, _^_, _≤_, _<_}
+use native.Mathlib.Nat.{add-zero, mul-comm, mul-le-mul-right, suc-mul}
 use native.Mathlib.Omega.{arith}
+use lib.Arith.{digits-mod}
 use lib.Dec.{ltb}
-use lib.ListN.{length, getD, drop, set}
-use lib.Seq.{getD-drop}
+use lib.ListN.{length, getD, drop, set, length-set}
+use lib.Seq.{getD-drop, getD-set-same, getD-set-other}
 use lib.IntN.{ℤ, pos, _-ℤ_}
 use mir.Syntax.{w32}
 use mir.Val.{SFits}
@@ -16,15 +17,14 @@ use Rattle.rules.specs.Frames.{Frame}
 use Rattle.rules.specs.Planes.{within, shifted}
 use Rattle.rules.specs.Bitmaps.{bit, bitAt, rowWords, word, wordOf}
 use Rattle.rules.proofs.SumLaws.{order}
-use Rattle.rules.proofs.FrameLaws.{RowAt, FrameAt, row-none, row-more, row-ext, frame-more, row-fits}
-use Rattle.frame.proofs.PlaceLaws.{row-join}
+use Rattle.rules.proofs.FrameLaws.{RowAt, FrameAt, row-none, row-more, row-fits}
 use Rattle.words.specs.Rows.{WordOf, rowBit, back, bias, biasWords, biasOf}
-use Rattle.words.proofs.BitLaws.{word-is}
-use Rattle.words.proofs.MoveLaws.{gate-lt, gate-ge, row-words-over, bitAt-row, moved-by}
+use Rattle.words.proofs.BitLaws.{word-is, word-ext}
+use Rattle.words.proofs.MoveLaws.{gate-lt, gate-ge, row-bit, row-words-over, back-at, bitAt-row, moved-by}
 use Rattle.count.specs.declared.differences.Move.{Move}
-use Rattle.count.specs.Rows.{movedBit, Joined, Interior}
-use Rattle.count.proofs.DifferLaws.{WordIn, moved-word, joined-moved}
-use Rattle.slide.specs.Slides.{slidWord, slidRow, slidFrom}
+use Rattle.count.specs.Rows.{movedBit, Joined, Interior, Moves}
+use Rattle.count.proofs.DifferLaws.{WordIn, moved-word, joined-moved, full-le}
+use Rattle.slide.specs.Slides.{slidWord, slidFrom, slidRows, Columns, Interiors}
 
 -- ---- one word
 
@@ -84,31 +84,153 @@ slid-under : (before after : List ℕ) (to from w d k : ℕ) → ((m : ℕ) → 
 slid-under before after to from w d k same l = slid-same after before from from w d k (row-under before after to from w same l)
 
 -- a row of which the words from `first` on are to be written
-pub part-none : (before : List ℕ) (from : ℕ) (m : Move) (to first : ℕ) → RowAt (to + first) (slidFrom before from m first) before (first - first) before
-part-none before from m to first = let e : 0 ≡ first - first = omega arith in rw e at (row-none (to + first) (slidFrom before from m first) before)
+pub part-none : (before : List ℕ) (from w d to first : ℕ) → RowAt (to + first) (slidFrom before from w d first) before (first - first) before
+part-none before from w d to first = let e : 0 ≡ first - first = omega arith in rw e at (row-none (to + first) (slidFrom before from w d first) before)
 
--- one word more of a row, of which the words from `first` on are written
-pub word-more : (before mid : List ℕ) (from : ℕ) (m : Move) (to first k v : ℕ) → m .n ≡ rowWords (m .w) → from + m .n ≤ to → first ≤ k → to + k < length before
-    → RowAt (to + first) (slidFrom before from m first) before (k - first) mid → v ≡ slidRow mid from m k
-    → RowAt (to + first) (slidFrom before from m first) before (k + 1 - first) (set mid (to + k) v)
-word-more before mid from m to first k v n apart l room a e =
+-- one word more of it
+pub part-more : (before mid : List ℕ) (from w d to first k v : ℕ) → from + rowWords w ≤ to → first ≤ k → to + k < length before
+    → RowAt (to + first) (slidFrom before from w d first) before (k - first) mid → v ≡ slidWord mid from w d k
+    → RowAt (to + first) (slidFrom before from w d first) before (k + 1 - first) (set mid (to + k) v)
+part-more before mid from w d to first k v apart l room a e =
     let p : to + first + (k - first) ≡ to + k = omega arith in
     let q : k - first + 1 ≡ k + 1 - first = omega arith in
     let s : first + (k - first) ≡ k = omega arith in
     rw (p, q) at
-    (row-more (to + first) (slidFrom before from m first) before (k - first) mid v (omega arith) a
-    (e ∙ slid-under before mid to from (m .w) (m .q * 64 + m .r) k (λ i j. a .under i (omega arith)) (omega arith) ∙ ap (slidRow before from m) (sym s)))
+    (row-more (to + first) (slidFrom before from w d first) before (k - first) mid v (omega arith) a
+    (e ∙ slid-under before mid to from w d k (λ i j. a .under i (omega arith)) apart ∙ ap (slidWord before from w d) (sym s)))
 
--- the words from `first` up to `end`, after those before them
-pub part-more : (before mid after : List ℕ) (from : ℕ) (m : Move) (to first end : ℕ) → m .n ≡ rowWords (m .w) → from + m .n ≤ to → first ≤ end
-    → RowAt to (slidRow before from m) before first mid
-    → RowAt (to + first) (slidFrom mid from m first) mid (end - first) after
-    → RowAt to (slidRow before from m) before end after
-part-more before mid after from m to first end n apart l a b =
-    let e : first + (end - first) ≡ end = omega arith in
-    rw e at
-    (row-join to (slidRow before from m) (slidFrom mid from m first) before mid after first (end - first) a b
-    (λ j i. slid-under before mid to from (m .w) (m .q * 64 + m .r) (first + j) (a .under) (omega arith)))
+-- ---- all rows as one
+
+-- full words of a row of full words
+pub long-words : (n : ℕ) → rowWords (n * 64) ≡ n
+unfolding rowWords
+long-words n = omega arith
+
+-- an interior word of row y is the same word of all rows taken as one
+long-word : (words : List ℕ) (from w n h q r k y : ℕ) → r < 64 → Interior (w / 64) q k → n ≡ rowWords w → y < h
+    → slidWord words from (n * h * 64) (q * 64 + r) (y * n + k) ≡ slidWord words (from + y * n) w (q * 64 + r) k
+unfolding slidWord movedBit
+long-word words from w n h q r k y l o e m =
+    word-ext
+    (λ i. gate (ltb ((y * n + k) * 64 + i) (n * h * 64)) (back (rowBit words from (n * h * 64)) (q * 64 + r) (bias + ((y * n + k) * 64 + i))))
+    (λ i. gate (ltb (k * 64 + i) w) (back (rowBit words (from + y * n) w) (q * 64 + r) (bias + (k * 64 + i)))) same
+  where
+    same : (i : ℕ) → i < 64
+        → gate (ltb ((y * n + k) * 64 + i) (n * h * 64)) (back (rowBit words from (n * h * 64)) (q * 64 + r) (bias + ((y * n + k) * 64 + i)))
+        ≡ gate (ltb (k * 64 + i) w) (back (rowBit words (from + y * n) w) (q * 64 + r) (bias + (k * 64 + i)))
+    same i g =
+        let d : ℕ = q * 64 + r in
+        let p : ℕ = bias + (k * 64 + i) - d in
+        let f = row-fits n h y m in
+        let b : (k < w / 64) × ((d + p ≡ bias + (k * 64 + i)) × (p < w / 64 * 64)) = (o .here, (omega (arith, o), omega (arith, o))) in
+        let c = full-le w in
+        let s : d + ((y * n + p / 64) * 64 + p % 64) ≡ bias + ((y * n + k) * 64 + i) = omega arith in
+        let t : d + (p / 64 * 64 + p % 64) ≡ bias + (k * 64 + i) = omega arith in
+        let u : from + (y * n + p / 64) ≡ from + y * n + p / 64 = omega arith in
+        gate-lt ((y * n + k) * 64 + i) (n * h * 64) (back (rowBit words from (n * h * 64)) d (bias + ((y * n + k) * 64 + i))) (omega arith)
+        ∙ back-at (rowBit words from (n * h * 64)) d ((y * n + p / 64) * 64 + p % 64) (bias + ((y * n + k) * 64 + i)) s
+        ∙ row-bit words from (n * h * 64) (y * n + p / 64) (p % 64) (omega arith) (omega arith)
+        ∙ ap (λ (j : ℕ). bit (getD words j 0) (p % 64)) u
+        ∙ sym (gate-lt (k * 64 + i) w (back (rowBit words (from + y * n) w) d (bias + (k * 64 + i))) (omega arith)
+        ∙ back-at (rowBit words (from + y * n) w) d (p / 64 * 64 + p % 64) (bias + (k * 64 + i)) t
+        ∙ row-bit words (from + y * n) w (p / 64) (p % 64) (omega arith) (omega arith))
+
+-- the run's words are interior to that row
+pub run-inside : (m : Move) (h k : ℕ) → Moves m → m .first < m .end → 0 < h → m .first ≤ k → k < (h - 1) * m .n + m .end
+    → Interior (m .n * h * 64 / 64) (m .q) k
+run-inside m h k v some l g j =
+    let a = v .inside (m .first) (omega arith) some in
+    let b = v .inside (m .end - 1) (omega arith) (omega arith) in
+    let f = row-fits (m .n) h (h - 1) (omega arith) in
+    let c = full-le (m .w) in
+    record { here = omega (arith, v .ends); low = omega (arith, a .low); high = omega (arith, b .high, v .row, v .ends) }
+
+-- the run's words
+pub run-interiors : (before after : List ℕ) (from : ℕ) (m : Move) (h to : ℕ) → Moves m → m .first < m .end → 0 < h
+    → RowAt (to + m .first) (slidFrom before from (m .n * h * 64) (m .q * 64 + m .r) (m .first)) before ((h - 1) * m .n + m .end - m .first) after
+    → Interiors to h m (slidRows before from m) before after
+run-interiors before after from m h to v some l a = record {
+  len = a .len;
+  under = λ i j. a .under i (omega arith);
+  done = done;
+  over = λ i j. a .over i (let f = row-fits (m .n) h (h - 1) (omega arith) in let c = mul-comm (m .n) h in omega (arith, v .ends));
+}
+  where
+    done : (k y : ℕ) → m .first ≤ k → k < m .end → y < h → getD after (to + (y * m .n + k)) 0 ≡ slidRows before from m k y
+    done k y g j i =
+        let p : to + (y * m .n + k) ≡ to + m .first + (y * m .n + k - m .first) = omega arith in
+        let q : m .first + (y * m .n + k - m .first) ≡ y * m .n + k = omega arith in
+        let b = mul-le-mul-right {m = y} {n = h - 1} (m .n) (omega arith) in
+        ap (λ (x : ℕ). getD after x 0) p
+        ∙ a .done (y * m .n + k - m .first) (omega arith)
+        ∙ ap (slidWord before from (m .n * h * 64) (m .q * 64 + m .r)) q
+        ∙ long-word before from (m .w) (m .n) h (m .q) (m .r) k y (v .bits) (v .inside k g j) (v .row) i
+
+-- ---- columns
+
+-- moved rows of a bitmap that ends at or before a place under which nothing has changed
+rows-under : (before after : List ℕ) (from : ℕ) (m : Move) (h to k y : ℕ) → m .n ≡ rowWords (m .w) → from + m .n * h ≤ to → y < h
+    → ((i : ℕ) → i < to → getD after i 0 ≡ getD before i 0) → slidRows after from m k y ≡ slidRows before from m k y
+rows-under before after from m h to k y n apart l same =
+    let f = row-fits (m .n) h y l in slid-under before after to (from + y * m .n) (m .w) (m .q * 64 + m .r) k same (omega arith)
+
+columns-under : (to n : ℕ) (f : Frame) (first end : ℕ) (before : List ℕ) (y : ℕ) (after : List ℕ) → Columns to n f first end before y after
+    → (i : ℕ) → i < to → getD after i 0 ≡ getD before i 0
+columns-under to n f first end before y after a i l = a .kept i (λ k z g j c e. omega arith)
+
+-- a place has one row and one word
+place-one : (n k z x y : ℕ) → k < n → x < n → z * n + k ≡ y * n + x → k ≡ x
+place-one n k z x y l m e = sym (digits-mod z l) ∙ ap (λ (j : ℕ). j % n) e ∙ digits-mod y m
+
+-- one row more of a column, read after the rows above it were written
+pub column-more : (before mid : List ℕ) (from : ℕ) (m : Move) (h to k y v : ℕ) → m .n ≡ rowWords (m .w) → from + m .n * h ≤ to → to + m .n * h ≤ length before → k < m .n → y < h
+    → Columns to (m .n) (slidRows before from m) k (k + 1) before y mid → v ≡ slidRows mid from m k y
+    → Columns to (m .n) (slidRows before from m) k (k + 1) before (y + 1) (set mid (to + (y * m .n + k)) v)
+column-more before mid from m h to k y v n apart room b l a e = record {
+  len = length-set mid (to + (y * m .n + k)) v ∙ a .len;
+  done = λ x z g j i. ⊎-elim (old x z g j) (new x z g j i) (order z y);
+  kept = λ i p. getD-set-other mid (to + (y * m .n + k)) i v 0 (λ q. p k y (omega arith) (omega arith) (omega arith) q)
+      ∙ a .kept i (λ x z g j c q. p x z g j (omega arith) q);
+}
+  where
+    old : (x z : ℕ) → k ≤ x → x < k + 1 → z < y → getD (set mid (to + (y * m .n + k)) v) (to + (z * m .n + x)) 0 ≡ slidRows before from m x z
+    old x z g j i =
+        let c = mul-le-mul-right {m = suc z} {n = y} (m .n) i in
+        let d = suc-mul z (m .n) in
+        getD-set-other mid (to + (y * m .n + k)) (to + (z * m .n + x)) v 0 (omega arith) ∙ a .done x z g j i
+
+    new : (x z : ℕ) → k ≤ x → x < k + 1 → z < y + 1 → y ≤ z → getD (set mid (to + (y * m .n + k)) v) (to + (z * m .n + x)) 0 ≡ slidRows before from m x z
+    new x z g j i o =
+        let c : x ≡ k = omega arith in
+        let d : z ≡ y = omega arith in
+        let f = row-fits (m .n) h y l in
+        let u = a .len in
+        ap₂ (λ (s t : ℕ). getD (set mid (to + (y * m .n + k)) v) (to + (t * m .n + s)) 0) c d
+        ∙ getD-set-same mid (to + (y * m .n + k)) v 0 (omega arith)
+        ∙ e
+        ∙ rows-under before mid from m h to k y n apart l (columns-under to (m .n) (slidRows before from m) k (k + 1) before y mid a)
+        ∙ ap₂ (slidRows before from m) (sym c) (sym d)
+
+-- one column more
+pub columns-more : (before mid after : List ℕ) (from : ℕ) (m : Move) (h to first k : ℕ) → m .n ≡ rowWords (m .w) → from + m .n * h ≤ to → first ≤ k → k < m .n
+    → Columns to (m .n) (slidRows before from m) first k before h mid
+    → Columns to (m .n) (slidRows mid from m) k (k + 1) mid h after
+    → Columns to (m .n) (slidRows before from m) first (k + 1) before h after
+columns-more before mid after from m h to first k n apart l b a r = record {
+  len = r .len ∙ a .len;
+  done = λ x z g j i. ⊎-elim (old x z g i) (new x z j i) (order x k);
+  kept = λ i p. r .kept i (λ x z g j c e. p x z (omega arith) j c e) ∙ a .kept i (λ x z g j c e. p x z g (omega arith) c e);
+}
+  where
+    old : (x z : ℕ) → first ≤ x → z < h → x < k → getD after (to + (z * m .n + x)) 0 ≡ slidRows before from m x z
+    old x z g i o =
+        r .kept (to + (z * m .n + x)) (λ s t p q c e. let d = place-one (m .n) s t x z (omega arith) (omega arith) (omega arith) in omega arith)
+        ∙ a .done x z g o i
+
+    new : (x z : ℕ) → x < k + 1 → z < h → k ≤ x → getD after (to + (z * m .n + x)) 0 ≡ slidRows before from m x z
+    new x z j i o =
+        r .done x z o j i
+        ∙ rows-under before mid from m h to x z n apart i (columns-under to (m .n) (slidRows before from m) first k before h mid a)
 
 -- ---- all rows
 
@@ -141,22 +263,59 @@ module _ (words : List ℕ) (w h y : ℕ) (dx : ℤ) (b : SFits w32 dx) (l : y <
   unfolding slidWord wordOf
   word-slid k = λ j. word (λ i. gate (ltb (k * 64 + i) w) (pixel-slid (k * 64 + i) j))
 
--- one row more, read after the rows above it were written
-pub row-slid : (before mid after : List ℕ) (from : ℕ) (m : Move) (w h to y : ℕ) (dx : ℤ) → SFits w32 dx
-    → m .w ≡ w → m .n ≡ rowWords w → m .q * 64 + m .r ≡ biasOf dx → from + rowWords w * h ≤ to → y < h
-    → FrameAt to (rowWords w) (slidBitmap w h dx (drop from before)) before y mid
-    → RowAt (to + y * m .n) (slidRow mid (from + y * m .n) m) mid (m .n) after
-    → FrameAt to (rowWords w) (slidBitmap w h dx (drop from before)) before (y + 1) after
-row-slid before mid after from m w h to y dx b ew en ed apart l a r =
-    frame-more to n (slidBitmap w h dx (drop from before)) before y mid after a
-    (row-ext (to + y * n) (slidWord mid (from + y * n) w (biasOf dx)) (λ k. slidBitmap w h dx (drop from before) k y) mid after n same (rw (ew, en, ed) at r))
+-- the interiors and the columns before and after them make up the frame
+pub frame-slid : (before mid late after : List ℕ) (from : ℕ) (m : Move) (w h to : ℕ) (dx : ℤ) → SFits w32 dx → Moves m
+    → m .w ≡ w → m .q * 64 + m .r ≡ biasOf dx → from + m .n * h ≤ to
+    → Interiors to h m (slidRows before from m) before mid
+    → Columns to (m .n) (slidRows mid from m) 0 (m .first) mid h late
+    → Columns to (m .n) (slidRows late from m) (m .end) (m .n) late h after
+    → FrameAt to (m .n) (slidBitmap w h dx (drop from before)) before h after
+frame-slid before mid late after from m w h to dx b v ew ed apart a l r = record {
+  len = r .len ∙ l .len ∙ a .len;
+  under = under;
+  done = λ x z g j. ⊎-elim (left x z g j) (λ (o : m .first ≤ x). ⊎-elim (inner x z g j o) (right x z g j) (order x (m .end))) (order x (m .first)) ∙ bitmap x z j;
+  over = λ i j. over i j;
+}
   where
     n : ℕ
-    n = rowWords w
+    n = m .n
 
-    same : (k : ℕ) → k < n → slidWord mid (from + y * n) w (biasOf dx) k ≡ slidBitmap w h dx (drop from before) k y
-    same k i =
-        let f = row-fits n h y l in
-        slid-under before mid to (from + y * n) w (biasOf dx) k (a .under) (omega arith)
-        ∙ slid-same before (drop from before) (from + y * n) (y * n) w (biasOf dx) k (row-drop before from (y * n) w)
-        ∙ word-slid (drop from before) w h y dx b l k
+    under-late : (i : ℕ) → i < to → getD late i 0 ≡ getD before i 0
+    under-late i j = columns-under to n (slidRows mid from m) 0 (m .first) mid h late l i j ∙ a .under i j
+
+    under : (i : ℕ) → i < to → getD after i 0 ≡ getD before i 0
+    under i j = columns-under to n (slidRows late from m) (m .end) n late h after r i j ∙ under-late i j
+
+    past : (i k z : ℕ) → to + h * n ≤ i → k < n → z < h → i ≡ to + (z * n + k) → ⊥
+    past i k z j g c e = let f = row-fits n h z c in let d = mul-comm n h in omega arith
+
+    over : (i : ℕ) → to + h * n ≤ i → getD after i 0 ≡ getD before i 0
+    over i j =
+        r .kept i (λ k z g o c e. past i k z j o c e)
+        ∙ l .kept i (λ k z g o c e. past i k z j (let d = firsts in omega (arith, v .ends)) c e)
+        ∙ a .over i j
+      where
+        firsts : m .first ≤ m .end
+        firsts = omega (arith, v)
+
+    left : (x z : ℕ) → x < n → z < h → x < m .first → getD after (to + (z * n + x)) 0 ≡ slidRows before from m x z
+    left x z g j o =
+        r .kept (to + (z * n + x)) (λ k y p q c e. let d = place-one n k y x z q g (omega arith) in omega (arith, v))
+        ∙ l .done x z (omega arith) o j
+        ∙ rows-under before mid from m h to x z (v .row) apart j (a .under)
+
+    inner : (x z : ℕ) → x < n → z < h → m .first ≤ x → x < m .end → getD after (to + (z * n + x)) 0 ≡ slidRows before from m x z
+    inner x z g j o u =
+        r .kept (to + (z * n + x)) (λ k y p q c e. let d = place-one n k y x z q g (omega arith) in omega arith)
+        ∙ l .kept (to + (z * n + x)) (λ k y p q c e. let d = place-one n k y x z (omega (arith, v)) g (omega arith) in omega arith)
+        ∙ a .done x z o u j
+
+    right : (x z : ℕ) → x < n → z < h → m .end ≤ x → getD after (to + (z * n + x)) 0 ≡ slidRows before from m x z
+    right x z g j o = r .done x z o g j ∙ rows-under before late from m h to x z (v .row) apart j under-late
+
+    bitmap : (x z : ℕ) → z < h → slidRows before from m x z ≡ slidBitmap w h dx (drop from before) x z
+    bitmap x z j =
+        let e : n ≡ rowWords w = v .row ∙ ap rowWords ew in
+        (λ i. slidWord before (from + z * e i) (ew i) (ed i) x)
+        ∙ slid-same before (drop from before) (from + z * rowWords w) (z * rowWords w) w (biasOf dx) x (row-drop before from (z * rowWords w) w)
+        ∙ word-slid (drop from before) w h z dx b j x

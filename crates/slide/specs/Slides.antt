@@ -1,9 +1,12 @@
--- The words of a row moved sideways.
+-- The words of rows moved sideways, and what is written of them.
+use mathlib.Core.Path.{_≡_}
 use mathlib.Core.List.{List}
-use Prim.Native.Nat.{ℕ, _+_, _*_}
+use Prim.Native.Nat.{ℕ, _+_, _*_, _≤_, _<_}
 use lib.Dec.{ltb}
+use lib.ListN.{length, getD}
 use Rattle.rules.specs.Limits.{wordBits}
 use Rattle.rules.specs.Sums.{gate}
+use Rattle.rules.specs.Frames.{Frame}
 use Rattle.rules.specs.Bitmaps.{word}
 use Rattle.count.specs.declared.differences.Move.{Move}
 use Rattle.count.specs.Rows.{movedBit}
@@ -16,6 +19,23 @@ slidWord words from w d k = word (λ i. gate (ltb (k * wordBits + i) w) (movedBi
 abbrev pub slidRow : List ℕ → ℕ → Move → ℕ → ℕ
 slidRow words from m = slidWord words from (m .w) (m .q * wordBits + m .r)
 
--- the words of that row from word `first` on
-abbrev pub slidFrom : List ℕ → ℕ → Move → ℕ → ℕ → ℕ
-slidFrom words from m first k = slidRow words from m (first + k)
+-- the words of a moved row from word `first` on
+abbrev pub slidFrom : List ℕ → ℕ → ℕ → ℕ → ℕ → ℕ → ℕ
+slidFrom words from w d first k = slidWord words from w d (first + k)
+
+-- the moved rows of a bitmap that begins at `from`, word k of row y
+abbrev pub slidRows : List ℕ → ℕ → Move → Frame
+slidRows words from m k y = slidRow words (from + y * m .n) m k
+
+-- the words from `first` up to `end` of the first y rows of n words from place `to` on are f's, and nothing else has changed
+pub record Columns (to n : ℕ) (f : Frame) (first end : ℕ) (before : List ℕ) (y : ℕ) (after : List ℕ) : Type 0 where
+  pub len : length after ≡ length before
+  pub done : (k z : ℕ) → first ≤ k → k < end → z < y → getD after (to + (z * n + k)) 0 ≡ f k z
+  pub kept : (i : ℕ) → ((k z : ℕ) → first ≤ k → k < end → z < y → i ≡ to + (z * n + k) → ⊥) → getD after i 0 ≡ getD before i 0
+
+-- the interior words of the h rows from place `to` on are f's, and nothing outside the rows has changed
+pub record Interiors (to h : ℕ) (m : Move) (f : Frame) (before after : List ℕ) : Type 0 where
+  pub len : length after ≡ length before
+  pub under : (i : ℕ) → i < to → getD after i 0 ≡ getD before i 0
+  pub done : (k y : ℕ) → m .first ≤ k → k < m .end → y < h → getD after (to + (y * m .n + k)) 0 ≡ f k y
+  pub over : (i : ℕ) → to + h * m .n ≤ i → getD after i 0 ≡ getD before i 0

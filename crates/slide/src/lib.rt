@@ -11,12 +11,12 @@ ghost use mathlib.Core.Path.{_≡_};
 ghost use Prim.Native.Nat.{_+_, _*_, _-_, _≤_, _<_};
 ghost use lib.IntN.{pos};
 ghost use lib.ListN.{length, drop};
-ghost use Rattle.rules.specs.Limits.{maxSide};
+ghost use Rattle.rules.specs.Limits.{maxSide, wordBits};
 ghost use Rattle.rules.specs.Planes.{shifted};
 ghost use Rattle.rules.specs.Bitmaps.{rowWords, bitAt, wordOf};
 ghost use Rattle.rules.proofs.FrameLaws.{RowAt, FrameAt};
 ghost use Rattle.count.specs.Rows.{Moves};
-ghost use Rattle.slide.specs.Slides.{slidRow, slidFrom};
+ghost use Rattle.slide.specs.Slides.{slidRow, slidFrom, slidRows, Columns, Interiors};
 
 const WORD_BITS: usize = 64;
 
@@ -34,50 +34,80 @@ fn edge_word(words: &[u64], from: usize, m: Move, k: usize) -> u64
     keep_low(v, m.w - k * WORD_BITS)
 }
 
-// The words from `first` up to `end` of the row at `to`.
-fn slide_edge(words: &mut [u64], from: usize, m: Move, to: usize, first: usize, end: usize)
+// Word k of every row. What it is made of is the same for all rows, so the compiler tests it once.
+fn slide_column(words: &mut [u64], from: usize, m: Move, h: usize, to: usize, k: usize)
+    requires moves { ⌜ Moves m ⌝ }
+    requires here { ⌜ k < m .n ⌝ }
+    requires apart { ⌜ from + m .n * h ≤ to ⌝ }
+    requires room { ⌜ to + m .n * h ≤ length (now words) ⌝ }
+    ensures { λ _. ⌜ Columns to (m .n) (slidRows (now (words .entry)) from m) k (k + 1) (now (words .entry)) h (now (words .exit)) ⌝ }
+{
+    let mut y: usize = 0;
+    while y < h {
+        let row = y * m.n;
+        words[to + (row + k)] = edge_word(words, from + row, m, k);
+        y += 1;
+    }
+}
+
+// The words from `first` up to `end` of every row.
+fn slide_columns(
+    words: &mut [u64],
+    from: usize,
+    m: Move,
+    h: usize,
+    to: usize,
+    first: usize,
+    end: usize,
+)
     requires moves { ⌜ Moves m ⌝ }
     requires span { ⌜ (first ≤ end) × (end ≤ m .n) ⌝ }
-    requires apart { ⌜ from + m .n ≤ to ⌝ }
-    requires room { ⌜ to + m .n ≤ length (now words) ⌝ }
-    ensures { λ _. ⌜ RowAt (to + first) (slidFrom (now (words .entry)) from m first) (now (words .entry)) (end - first) (now (words .exit)) ⌝ }
+    requires apart { ⌜ from + m .n * h ≤ to ⌝ }
+    requires room { ⌜ to + m .n * h ≤ length (now words) ⌝ }
+    ensures { λ _. ⌜ Columns to (m .n) (slidRows (now (words .entry)) from m) first end (now (words .entry)) h (now (words .exit)) ⌝ }
 {
     let mut k = first;
     while k < end {
-        words[to + k] = edge_word(words, from, m, k);
+        slide_column(words, from, m, h, to, k);
         k += 1;
     }
 }
 
-// The interior words of the row at `to`: two words of the row joined, with no test and no mask.
-fn slide_interior(words: &mut [u64], from: usize, m: Move, to: usize)
+// The interior words of all rows in one run, as if the rows were one: two words joined, with no test and
+// no mask. The words between two rows' interiors are written too, and are still wrong after it.
+fn slide_run(words: &mut [u64], from: usize, m: Move, h: usize, to: usize)
     requires moves { ⌜ Moves m ⌝ }
-    requires apart { ⌜ from + m .n ≤ to ⌝ }
-    requires room { ⌜ to + m .n ≤ length (now words) ⌝ }
-    ensures { λ _. ⌜ RowAt (to + m .first) (slidFrom (now (words .entry)) from m (m .first)) (now (words .entry)) (m .end - m .first) (now (words .exit)) ⌝ }
+    requires some { ⌜ (m .first < m .end) × (0 < h) ⌝ }
+    requires apart { ⌜ from + m .n * h ≤ to ⌝ }
+    requires room { ⌜ to + m .n * h ≤ length (now words) ⌝ }
+    ensures { λ _. ⌜ RowAt (to + m .first) (slidFrom (now (words .entry)) from (m .n * h * wordBits) (m .q * wordBits + m .r) (m .first)) (now (words .entry)) ((h - 1) * m .n + m .end - m .first) (now (words .exit)) ⌝ }
 {
     let mut k = m.first;
-    let end = m.end;
+    let end = (h - 1) * m.n + m.end;
     while k < end {
         words[to + k] = joined_word(words, from + k + BIAS_WORDS - m.q, m.r);
         k += 1;
     }
 }
 
-// The row at `from`, moved, written at `to`.
-fn slide_row(words: &mut [u64], from: usize, m: Move, to: usize)
+// The interior words of all rows, if there are any.
+fn slide_interiors(words: &mut [u64], from: usize, m: Move, h: usize, to: usize)
     requires moves { ⌜ Moves m ⌝ }
-    requires apart { ⌜ from + m .n ≤ to ⌝ }
-    requires room { ⌜ to + m .n ≤ length (now words) ⌝ }
-    ensures { λ _. ⌜ RowAt to (slidRow (now (words .entry)) from m) (now (words .entry)) (m .n) (now (words .exit)) ⌝ }
+    requires apart { ⌜ from + m .n * h ≤ to ⌝ }
+    requires room { ⌜ to + m .n * h ≤ length (now words) ⌝ }
+    ensures { λ _. ⌜ Interiors to h m (slidRows (now (words .entry)) from m) (now (words .entry)) (now (words .exit)) ⌝ }
 {
-    slide_edge(words, from, m, to, 0, m.first);
-    slide_interior(words, from, m, to);
-    slide_edge(words, from, m, to, m.end, m.n);
+    if h == 0 {
+        return;
+    }
+    if m.first == m.end {
+        return;
+    }
+    slide_run(words, from, m, h, to);
 }
 
 // The bitmap of w by h at place `from`, moved right by dx, written at place `to` of the same memory. It
-// lies before `to`, so no row that is still to be read is overwritten.
+// lies before `to`, so it is never overwritten.
 pub fn slide_within(words: &mut [u64], from: usize, w: usize, h: usize, dx: i32, to: usize)
     requires width { ⌜ w ≤ maxSide ⌝ }
     requires height { ⌜ h ≤ maxSide ⌝ }
@@ -86,10 +116,7 @@ pub fn slide_within(words: &mut [u64], from: usize, w: usize, h: usize, dx: i32,
     ensures { λ _. ⌜ FrameAt to (rowWords w) (wordOf w (shifted w h dx (pos 0) (bitAt w h (drop from (now (words .entry)))))) (now (words .entry)) h (now (words .exit)) ⌝ }
 {
     let m = move_by(w, biased(dx));
-    let mut y: usize = 0;
-    while y < h {
-        let row = y * m.n;
-        slide_row(words, from + row, m, to + row);
-        y += 1;
-    }
+    slide_interiors(words, from, m, h, to);
+    slide_columns(words, from, m, h, to, 0, m.first);
+    slide_columns(words, from, m, h, to, m.end, m.n);
 }
