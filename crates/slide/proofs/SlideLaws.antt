@@ -236,7 +236,7 @@ columns-more before mid after from m h to first k n apart l b a r = record {
 -- ---- all rows
 
 -- the bitmap moved to the right by dx, as document 01 has it
-abbrev slidBitmap : ℕ → ℕ → ℤ → List ℕ → Frame
+abbrev pub slidBitmap : ℕ → ℕ → ℤ → List ℕ → Frame
 slidBitmap w h dx words = wordOf w (shifted w h dx (pos 0) (bitAt w h words))
 
 row-drop : (words : List ℕ) (from base w x : ℕ) → rowBit words (from + base) w x ≡ rowBit (drop from words) base w x
