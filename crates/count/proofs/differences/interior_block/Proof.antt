@@ -14,43 +14,43 @@ ready : (c : tie.Start) (k : ℕ) → c .args .k ≤ k → k < c .args .k + 7
 ready c k l m = (c .pre .0, ((omega (arith, c .pre), omega (arith, c .pre)), c .pre .1 .1 .0))
 
 differing-word-requires : tie.Need-differing-word-requires
-differing-word-requires c κs = let s = c .before .before .before .before in ready s (s .args .k) (omega arith) (omega arith)
+differing-word-requires c κs = let s = c .before .before .before .before in ready s _ (omega arith) (omega arith)
 
 add-differing-word : tie.Need-add-differing-word
 add-differing-word c = omega (arith, near (c .before .before .before .before .before))
 
 differing-word-requires-2 : tie.Need-differing-word-requires-2
-differing-word-requires-2 c κs = let s = c .before .before .before .before .before in ready s (s .args .k + 1) (omega arith) (omega arith)
+differing-word-requires-2 c κs = let s = c .before .before .before .before .before in ready s _ (omega arith) (omega arith)
 
 add-differing-word-2 : tie.Need-add-differing-word-2
 add-differing-word-2 c = omega (arith, near (c .before .before .before .before .before .before))
 
 differing-word-requires-3 : tie.Need-differing-word-requires-3
-differing-word-requires-3 c κs = let s = c .before .before .before .before .before .before in ready s (s .args .k + 2) (omega arith) (omega arith)
+differing-word-requires-3 c κs = let s = c .before .before .before .before .before .before in ready s _ (omega arith) (omega arith)
 
 add-differing-word-3 : tie.Need-add-differing-word-3
 add-differing-word-3 c = omega (arith, near (c .before .before .before .before .before .before .before))
 
 differing-word-requires-4 : tie.Need-differing-word-requires-4
-differing-word-requires-4 c κs = let s = c .before .before .before .before .before .before .before in ready s (s .args .k + 3) (omega arith) (omega arith)
+differing-word-requires-4 c κs = let s = c .before .before .before .before .before .before .before in ready s _ (omega arith) (omega arith)
 
 add-differing-word-4 : tie.Need-add-differing-word-4
 add-differing-word-4 c = omega (arith, near (c .before .before .before .before .before .before .before .before))
 
 differing-word-requires-5 : tie.Need-differing-word-requires-5
-differing-word-requires-5 c κs = let s = c .before .before .before .before .before .before .before .before in ready s (s .args .k + 4) (omega arith) (omega arith)
+differing-word-requires-5 c κs = let s = c .before .before .before .before .before .before .before .before in ready s _ (omega arith) (omega arith)
 
 add-differing-word-5 : tie.Need-add-differing-word-5
 add-differing-word-5 c = omega (arith, near (c .before .before .before .before .before .before .before .before .before))
 
 differing-word-requires-6 : tie.Need-differing-word-requires-6
-differing-word-requires-6 c κs = let s = c .before .before .before .before .before .before .before .before .before in ready s (s .args .k + 5) (omega arith) (omega arith)
+differing-word-requires-6 c κs = let s = c .before .before .before .before .before .before .before .before .before in ready s _ (omega arith) (omega arith)
 
 add-differing-word-6 : tie.Need-add-differing-word-6
 add-differing-word-6 c = omega (arith, near (c .before .before .before .before .before .before .before .before .before .before))
 
 differing-word-requires-7 : tie.Need-differing-word-requires-7
-differing-word-requires-7 c κs = let s = c .before .before .before .before .before .before .before .before .before .before in ready s (s .args .k + 6) (omega arith) (omega arith)
+differing-word-requires-7 c κs = let s = c .before .before .before .before .before .before .before .before .before .before in ready s _ (omega arith) (omega arith)
 
 seven-ones-requires : tie.Need-seven-ones-requires
 seven-ones-requires c κs = c .before .before .before .before .before .before .before .before .before .before .before .pre .1 .1 .1
