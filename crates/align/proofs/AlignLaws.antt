@@ -10,13 +10,14 @@ use lib.Pow.{pow-pos, pow-mono}
 use borrow.Rule.Slice.PartMut.{putMid, take-put}
 use borrow.Rule.Slice.PartAt.{part-to-end}
 use Rattle.rules.specs.declared.Offset.{Offset}
-use Rattle.rules.specs.Frames.{Frame, frameOf}
+use Rattle.rules.specs.Frames.{Frame, frameOf, SameFrame}
 use Rattle.rules.specs.Greys.{halved}
-use Rattle.rules.specs.Levels.{still, added, wardOrder, byTolerance, chosen, Aligned, level, countAt, pair}
+use Rattle.rules.specs.Levels.{still, added, wardOrder, byTolerance, chosen, Aligned, level, countAt, pair, Near}
 use Rattle.rules.specs.Bitmaps.{rowWords}
-use Rattle.rules.proofs.FrameLaws.{RowAt, FrameAt, pixel-fits, row-ext}
-use Rattle.rules.proofs.OffsetLaws.{Near, near-add, near-more, near-pair, near-ward}
-use Rattle.rules.proofs.PairLaws.{SameFrame, halved-ext, count-ext, pair-ext}
+use Rattle.rules.specs.Buffers.{RowAt, FrameAt}
+use Rattle.rules.proofs.FrameLaws.{pixel-fits, row-ext}
+use Rattle.rules.proofs.OffsetLaws.{near-add, near-more, near-pair, near-ward}
+use Rattle.rules.proofs.PairLaws.{halved-ext, count-ext, pair-ext}
 use Rattle.rules.proofs.AlignmentLaws.{level-pixels-step, level-pixels-at}
 use Rattle.frame.proofs.PlaceLaws.{row-join}
 use Rattle.level.specs.Sides.{Sides}

@@ -7,14 +7,15 @@ use native.Mathlib.Omega.{arith}
 use lib.ListN.{length, getD, drop, length-append, length-drop, List·getD-append}
 use lib.Seq.{getD-append-add, getD-drop, ext-getD}
 use Rattle.rules.specs.declared.Offset.{Offset}
-use Rattle.rules.specs.Frames.{frameOf, writtenOver}
+use Rattle.rules.specs.Frames.{frameOf, writtenOver, SameFrame}
 use Rattle.rules.specs.Greys.{greyFrame}
 use Rattle.rules.specs.Levels.{wardOrder, byTolerance, Aligned}
 use Rattle.rules.specs.Calls.{pairResult}
 use Rattle.rules.proofs.SumLaws.{order}
-use Rattle.rules.proofs.FrameLaws.{RowAt, pixel-fits}
-use Rattle.rules.proofs.PairLaws.{SameFrame, pair-ext}
-use Rattle.rules.proofs.AlignmentLaws.{PairOk}
+use Rattle.rules.specs.Buffers.{RowAt}
+use Rattle.rules.proofs.FrameLaws.{pixel-fits}
+use Rattle.rules.proofs.PairLaws.{pair-ext}
+use Rattle.rules.specs.Accepted.{PairOk}
 use Rattle.frame.specs.Places.{greyAt}
 use Rattle.align.specs.Aligns.{Frames, Aligns, alignedIn}
 use Rattle.align.proofs.AlignLaws.{counts-length}

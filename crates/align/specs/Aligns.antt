@@ -7,7 +7,7 @@ use Rattle.rules.specs.declared.Offset.{Offset}
 use Rattle.rules.specs.Frames.{frameOf}
 use Rattle.rules.specs.Levels.{wardOrder, byTolerance, Aligned, pair}
 use Rattle.rules.specs.Refusals.{greyNeeded}
-use Rattle.rules.proofs.FrameLaws.{RowAt}
+use Rattle.rules.specs.Buffers.{RowAt}
 
 -- the frames at `first` and `second`, within the first 2·w·h bytes of the memory, which suffices for s halvings
 pub record Frames (first second w h s memory : ℕ) : Type 0 where

@@ -8,7 +8,7 @@ use lending::pair_refusal;
 use pairs::align_frames;
 use rules::Paired;
 ghost use mathlib.Core.Path.{_≡_};
-ghost use Rattle.rules.specs.Answers.{paired, lent};
+ghost use Rattle.rules.specs.Answers.{paired, bufferAfter};
 ghost use Rattle.rules.specs.Calls.{pairNumber, pairResult};
 
 // The offset that moves the second frame onto the first, and the counts of every level.
@@ -25,7 +25,7 @@ pub fn pair(
     words: &mut [u64],
 ) -> Paired
     ensures answer { λ r. ⌜ r ≡ paired (pairNumber w h s tolerance percentile (now (first .entry)) (now (second .entry)) (now (counts .entry)) (now (grey .entry)) (now (words .entry))) (pairResult w h s tolerance percentile (now (first .entry)) (now (second .entry)) .offset) ⌝ }
-    ensures counts { λ _. ⌜ now (counts .exit) ≡ lent (pairNumber w h s tolerance percentile (now (first .entry)) (now (second .entry)) (now (counts .entry)) (now (grey .entry)) (now (words .entry))) (pairResult w h s tolerance percentile (now (first .entry)) (now (second .entry)) .counts) (now (counts .entry)) ⌝ }
+    ensures counts { λ _. ⌜ now (counts .exit) ≡ bufferAfter (pairNumber w h s tolerance percentile (now (first .entry)) (now (second .entry)) (now (counts .entry)) (now (grey .entry)) (now (words .entry))) (pairResult w h s tolerance percentile (now (first .entry)) (now (second .entry)) .counts) (now (counts .entry)) ⌝ }
     ensures memory { λ _. ⌜ ((pairNumber w h s tolerance percentile (now (first .entry)) (now (second .entry)) (now (counts .entry)) (now (grey .entry)) (now (words .entry)) ≡ 0 → ⊥) → (now (grey .exit) ≡ now (grey .entry)) × (now (words .exit) ≡ now (words .entry))) ⌝ }
 {
     let n = pair_refusal(

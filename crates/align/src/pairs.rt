@@ -8,8 +8,7 @@ ghost use Prim.Native.Nat.{ℕ, _+_, _*_, _<_, _≤_, _^_};
 ghost use lib.ListN.{length, getD, drop};
 ghost use Rattle.rules.specs.Bitmaps.{rowWords};
 ghost use Rattle.rules.specs.Refusals.{greyNeeded};
-ghost use Rattle.rules.proofs.OffsetLaws.{Near};
-ghost use Rattle.rules.specs.Levels.{added};
+ghost use Rattle.rules.specs.Levels.{added, Near};
 ghost use Rattle.count.specs.Ones.{CountsOnes};
 ghost use Rattle.align.specs.Aligns.{Frames, Aligns};
 

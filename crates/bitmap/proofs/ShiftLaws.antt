@@ -15,7 +15,8 @@ use Rattle.rules.specs.Frames.{Frame, writtenOver}
 use Rattle.rules.specs.Planes.{within, shifted}
 use Rattle.rules.specs.Bitmaps.{bit, bitAt, rowWords, word, wordOf, packed}
 use Rattle.rules.proofs.SumLaws.{order, sum-zero, gate-zero}
-use Rattle.rules.proofs.FrameLaws.{RowAt, FrameAt, frame-written}
+use Rattle.rules.specs.Buffers.{RowAt, FrameAt}
+use Rattle.rules.proofs.FrameLaws.{frame-written}
 use Rattle.words.specs.Rows.{rowBit, back, WordOf, bias, biasWords, biasOf}
 use Rattle.words.proofs.BitLaws.{word-is}
 use Rattle.words.proofs.MoveLaws.{gate-lt, gate-ge, back-at, back-under, bitAt-row, within-before, within-at, within-past, moved-by}

@@ -9,7 +9,8 @@ use lib.Dec.{ltb}
 use lib.ListN.{length, take, drop}
 use borrow.Author.Tests.{ltb-true, not-false}
 use Rattle.rules.specs.Refusals.{_when_, _orElse_, badSize, wrongLength, rasterLength}
-use Rattle.rules.proofs.RefusalLaws.{SizeOk, size-ok, when-no, orElse-no, or-no, length-is}
+use Rattle.rules.specs.Accepted.{SizeOk}
+use Rattle.rules.proofs.RefusalLaws.{size-ok, when-no, orElse-no, or-no, length-is}
 use Rattle.rules.proofs.FrameLaws.{row-fits}
 use Rattle.blink.specs.declared.Row.{Row}
 use Rattle.blink.specs.Blink.{blinkRefusal, rowStart, rasterRow, blinkPart, blinkRow, rowAt, blinkAnswer}

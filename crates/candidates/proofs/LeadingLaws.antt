@@ -10,7 +10,7 @@ use lib.ListN.{getD}
 use mir.Syntax.{w32}
 use mir.Val.{SFits, toZ, ofZ}
 use Rattle.rules.proofs.SumLaws.{order}
-use Rattle.rules.proofs.LevelLaws.{stepOf}
+use Rattle.rules.specs.Levels.{stepOf}
 use Rattle.rules.proofs.SignedLaws.{sum-is, sum-bits-fit}
 use Rattle.candidates.specs.Leading.{Leading}
 

@@ -4,8 +4,7 @@ use rules::Offset;
 ghost use mathlib.Core.Path.{_≡_};
 ghost use Prim.Native.Nat.{_+_, _<_, _≤_};
 ghost use lib.ListN.{length};
-ghost use Rattle.rules.proofs.LevelLaws.{candidateAt, stepOf};
-ghost use Rattle.rules.proofs.OffsetLaws.{Near};
+ghost use Rattle.rules.specs.Levels.{candidateAt, stepOf, Near};
 ghost use Rattle.candidates.specs.Leading.{Leading};
 
 // A step on an axis: -1, 0 or 1.

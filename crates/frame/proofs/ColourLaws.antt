@@ -4,7 +4,7 @@ use mathlib.Core.List.{List}
 use Prim.Native.Nat.{ℕ, _+_, _*_, _-_, _/_, _%_, _≤_, _<_}
 use native.Mathlib.Omega.{arith}
 use lib.ListN.{length, getD, set, length-set}
-use Rattle.rules.proofs.FrameLaws.{RowAt}
+use Rattle.rules.specs.Buffers.{RowAt}
 use Rattle.frame.specs.Places.{greyAt, greyFrom, byteFrom, shuffledAt, planeAt, weighedAt, numberAt, Filled}
 use Rattle.frame.proofs.PlaceLaws.{filled-more, row-join}
 

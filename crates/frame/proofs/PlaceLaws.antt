@@ -10,7 +10,8 @@ use lib.Seq.{getD-set-same, getD-set-other}
 use Rattle.rules.specs.Frames.{frameOf}
 use Rattle.rules.specs.Greys.{halved}
 use Rattle.rules.proofs.SumLaws.{order}
-use Rattle.rules.proofs.FrameLaws.{RowAt, FrameAt, frame-more, pixel-fits, row-ext}
+use Rattle.rules.specs.Buffers.{RowAt, FrameAt}
+use Rattle.rules.proofs.FrameLaws.{frame-more, pixel-fits, row-ext}
 use Rattle.frame.specs.Places.{secondAt, evenAt, halfAt, Filled}
 
 pub filled-none : (f : ℕ → ℕ) (l : List ℕ) → Filled f 0 l

@@ -6,7 +6,7 @@ ghost use mathlib.Core.Path.{_≡_};
 ghost use Prim.Native.Nat.{_+_, _*_, _≤_};
 ghost use lib.ListN.{length};
 ghost use Rattle.rules.specs.Greys.{grey};
-ghost use Rattle.rules.proofs.FrameLaws.{RowAt};
+ghost use Rattle.rules.specs.Buffers.{RowAt};
 ghost use Rattle.frame.specs.Places.{greyAt, greyFrom, byteFrom, shuffledAt, planeAt, weighedAt, numberAt, Filled};
 
 // In 16 bits, which hold 256 · 255: the narrower the sums, the more of them at a time.

@@ -6,7 +6,7 @@ ghost use Prim.Native.Nat.{_+_, _*_, _-_, _/_, _≤_, min, max};
 ghost use lib.ListN.{length};
 ghost use Rattle.rules.specs.Frames.{frameOf};
 ghost use Rattle.rules.specs.Greys.{secondSmallest, halved};
-ghost use Rattle.rules.proofs.FrameLaws.{RowAt, FrameAt};
+ghost use Rattle.rules.specs.Buffers.{RowAt, FrameAt};
 ghost use Rattle.frame.specs.Places.{secondAt, evenAt, halfAt, Filled, RowFits};
 
 fn lower(a: u8, b: u8) -> u8

@@ -4,9 +4,10 @@ use mathlib.Core.List.{List, map}
 use Prim.Native.Nat.{ℕ}
 use native.Mathlib.Omega.{arith}
 use Rattle.rules.specs.declared.Offset.{Offset}
-use Rattle.rules.specs.Levels.{wardOrder, added, chosen}
-use Rattle.rules.proofs.FrameLaws.{RowAt, row-ext}
-use Rattle.rules.proofs.LevelLaws.{candidateAt, chosen-is}
+use Rattle.rules.specs.Levels.{wardOrder, added, chosen, candidateAt}
+use Rattle.rules.specs.Buffers.{RowAt}
+use Rattle.rules.proofs.FrameLaws.{row-ext}
+use Rattle.rules.proofs.LevelLaws.{chosen-is}
 use Rattle.candidates.specs.Leading.{Leading}
 use Rattle.level.specs.Choices.{nineOf, Settled}
 

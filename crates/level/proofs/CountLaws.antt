@@ -13,8 +13,9 @@ use Rattle.rules.specs.Bitmaps.{rowWords}
 use Rattle.rules.specs.Differences.{difference}
 use Rattle.rules.specs.Calls.{planesOf}
 use Rattle.rules.specs.declared.Offset.{Offset}
-use Rattle.rules.proofs.OffsetLaws.{Near, near-add}
-use Rattle.rules.proofs.LevelLaws.{candidateAt, stepOf, candidate-is}
+use Rattle.rules.proofs.OffsetLaws.{near-add}
+use Rattle.rules.specs.Levels.{candidateAt, stepOf, Near}
+use Rattle.rules.proofs.LevelLaws.{candidate-is}
 use Rattle.rules.proofs.SignedLaws.{bits-are}
 use Rattle.candidates.proofs.LeadingLaws.{step-near}
 use Rattle.overlap.specs.Runs.{Clean}

@@ -15,13 +15,14 @@ use Rattle.rules.specs.Frames.{Frame, frameOf}
 use Rattle.rules.specs.Thresholds.{threshold}
 use Rattle.rules.specs.Planes.{thresholdBit, exclusionBit, bitsBy}
 use Rattle.rules.specs.Bitmaps.{rowWords, bit, bitAt, word, wordOf}
-use Rattle.rules.specs.Differences.{Planes}
+use Rattle.rules.specs.Differences.{Planes, SamePlanes}
 use Rattle.rules.specs.Levels.{byTolerance, planesBy, countAt}
 use Rattle.rules.specs.Calls.{planesOf}
 use Rattle.rules.specs.declared.Offset.{Offset}
 use Rattle.rules.proofs.SumLaws.{order, gate-small}
-use Rattle.rules.proofs.FrameLaws.{RowAt, row-fits, pixel-fits}
-use Rattle.rules.proofs.DifferenceLaws.{SamePlanes, difference-ext}
+use Rattle.rules.specs.Buffers.{RowAt}
+use Rattle.rules.proofs.FrameLaws.{row-fits, pixel-fits}
+use Rattle.rules.proofs.DifferenceLaws.{difference-ext}
 use Rattle.words.proofs.BitLaws.{word-bit}
 use Rattle.threshold.specs.Flat.{thresholdIn}
 use Rattle.threshold.proofs.FlatLaws.{threshold-flat}

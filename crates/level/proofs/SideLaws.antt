@@ -3,7 +3,7 @@ use Prim.Native.Nat.{ℕ, _≤_}
 use native.Mathlib.Nat.{mul-le-mul}
 use native.Mathlib.Omega.{arith}
 use Rattle.rules.specs.Bitmaps.{rowWords}
-use Rattle.rules.proofs.RefusalLaws.{SizeOk}
+use Rattle.rules.specs.Accepted.{SizeOk}
 use Rattle.level.specs.Sides.{Sides}
 
 row-le : (w : ℕ) → w ≤ 4096 → rowWords w ≤ 64

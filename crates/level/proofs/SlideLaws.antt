@@ -16,7 +16,7 @@ use Rattle.rules.specs.Differences.{Planes, differ, differAt, difference}
 use Rattle.rules.specs.Calls.{planesOf}
 use Rattle.rules.specs.declared.Offset.{Offset}
 use Rattle.rules.proofs.SumLaws.{gate-zero, gate-small, pixels-ext}
-use Rattle.rules.proofs.FrameLaws.{FrameAt}
+use Rattle.rules.specs.Buffers.{FrameAt}
 use Rattle.rules.proofs.DifferenceLaws.{within-ext, difference-ext}
 use Rattle.words.proofs.BitLaws.{bit-lt}
 use Rattle.overlap.specs.Runs.{Clean}

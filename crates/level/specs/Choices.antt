@@ -3,9 +3,8 @@ use mathlib.Core.Path.{_≡_}
 use mathlib.Core.List.{List, map}
 use Prim.Native.Nat.{ℕ, _+_, _*_}
 use Rattle.rules.specs.declared.Offset.{Offset}
-use Rattle.rules.specs.Levels.{wardOrder, added, chosen}
-use Rattle.rules.proofs.FrameLaws.{RowAt}
-use Rattle.rules.proofs.LevelLaws.{candidateAt}
+use Rattle.rules.specs.Levels.{wardOrder, added, chosen, candidateAt}
+use Rattle.rules.specs.Buffers.{RowAt}
 
 -- the count at candidate k around a centre
 abbrev pub nineOf : (Offset → ℕ) → Offset → ℕ → ℕ

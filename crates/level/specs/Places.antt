@@ -7,11 +7,10 @@ use lib.IntN.{ℤ, pos}
 use Rattle.rules.specs.Frames.{Frame, frameOf}
 use Rattle.rules.specs.Planes.{shifted}
 use Rattle.rules.specs.Bitmaps.{rowWords}
-use Rattle.rules.specs.Differences.{Planes, difference}
+use Rattle.rules.specs.Differences.{Planes, difference, SamePlanes}
 use Rattle.rules.specs.Levels.{byTolerance, planesBy}
 use Rattle.rules.specs.Calls.{planesOf}
 use Rattle.rules.specs.declared.Offset.{Offset}
-use Rattle.rules.proofs.DifferenceLaws.{SamePlanes}
 use Rattle.overlap.specs.Runs.{Clean}
 
 -- the two planes of the frame whose bitmaps begin at place `to`

@@ -17,7 +17,8 @@ use Rattle.rules.specs.Planes.{within, shifted}
 use Rattle.rules.specs.Refusals.{_when_, _orElse_, badSize, wrongLength, short, rasterLength}
 use Rattle.rules.proofs.SumLaws.{order, gate-zero}
 use Rattle.rules.proofs.RefusalLaws.{size-ok, when-no, orElse-no, length-is}
-use Rattle.rules.proofs.FrameLaws.{RowAt, FrameAt, row-ext, row-fits, frame-written}
+use Rattle.rules.specs.Buffers.{RowAt, FrameAt}
+use Rattle.rules.proofs.FrameLaws.{row-ext, row-fits, frame-written}
 use Rattle.words.specs.Rows.{bias, biasOf}
 use Rattle.words.proofs.MoveLaws.{within-before, within-at, within-past}
 use Rattle.moved.specs.declared.clipping.Span.{Span}

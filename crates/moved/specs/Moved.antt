@@ -7,7 +7,7 @@ use Rattle.rules.specs.declared.Written.{Written}
 use Rattle.rules.specs.Frames.{Frame, rows}
 use Rattle.rules.specs.Planes.{shifted}
 use Rattle.rules.specs.Refusals.{_when_, _orElse_, badSize, wrongLength, short, rasterLength}
-use Rattle.rules.specs.Answers.{written, lent}
+use Rattle.rules.specs.Answers.{written, bufferAfter}
 
 -- red, green or blue (c = 0, 1, 2) of a raster's pixels: "rows from the top, three bytes a pixel: R, G, B"
 unfoldable pub channel : ℕ → List ℕ → ℕ → Frame
@@ -27,4 +27,4 @@ abbrev pub movedAnswer : ℕ → ℕ → List ℕ → List ℕ → Written
 movedAnswer w h raster out = written (movedRefusal w h (length raster) (length out))
 
 abbrev pub movedOut : ℕ → ℕ → ℤ → ℤ → List ℕ → List ℕ → List ℕ
-movedOut w h dx dy raster out = lent (movedRefusal w h (length raster) (length out)) (rows (3 * w) h (movedByte w h dx dy raster)) out
+movedOut w h dx dy raster out = bufferAfter (movedRefusal w h (length raster) (length out)) (rows (3 * w) h (movedByte w h dx dy raster)) out

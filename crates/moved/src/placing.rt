@@ -3,7 +3,7 @@
 ghost use Prim.Native.Nat.{_+_, _*_, _<_, _≤_};
 ghost use lib.ListN.{length};
 ghost use Rattle.rules.specs.Limits.{maxSide};
-ghost use Rattle.rules.proofs.FrameLaws.{RowAt, FrameAt};
+ghost use Rattle.rules.specs.Buffers.{RowAt, FrameAt};
 ghost use Rattle.moved.specs.Spans.{Inside, Sized, zeros, bytesFrom, laidByte, placedByte, placedRow};
 use crate::clipping::Span;
 

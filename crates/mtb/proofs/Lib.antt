@@ -1,4 +1,3 @@
 -- Laws of answers as C gets them.
 pub mod ToldLaws
-pub mod NeededLaws
 pub mod FitLaws

@@ -17,14 +17,14 @@ use Rattle.area.specs.declared.Common.{Common}
 use Rattle.area.specs.Common.{common}
 use Rattle.blink.specs.declared.Row.{Row}
 use Rattle.blink.specs.Blink.{rowAt}
-use Rattle.mtb.specs.Told.{told, refusalIn}
+use Rattle.mtb.specs.Told.{valueAfter, refusalIn}
 
 -- A pointer's place after an accepted call, and after a refused one.
-pub told-accepted : {A : Type 0} (k : ℕ) (value x before : A) → 0 ≡ k → x ≡ value → x ≡ told k value before
+pub told-accepted : {A : Type 0} (k : ℕ) (value x before : A) → 0 ≡ k → x ≡ value → x ≡ valueAfter k value before
 told-accepted zero value x before z e = e
 told-accepted (suc k) value x before z e = absurd (omega arith)
 
-pub told-refused : {A : Type 0} (k n : ℕ) (value before : A) → n ≡ k → (n ≡ 0 → ⊥) → before ≡ told k value before
+pub told-refused : {A : Type 0} (k n : ℕ) (value before : A) → n ≡ k → (n ≡ 0 → ⊥) → before ≡ valueAfter k value before
 told-refused zero n value before e l = absurd (l e)
 told-refused (suc k) n value before e l = refl
 

@@ -13,10 +13,10 @@ use mir.Val.{SFits, toZ, ofZ}
 use Rattle.rules.specs.declared.Offset.{Offset}
 use Rattle.rules.specs.Frames.{writtenOver}
 use Rattle.rules.specs.Planes.{distance}
-use Rattle.rules.specs.Levels.{still, added}
+use Rattle.rules.specs.Levels.{still, added, Near}
 use Rattle.rules.specs.Series.{opposite, frameOffset, offsetList}
 use Rattle.rules.proofs.SumLaws.{order}
-use Rattle.rules.proofs.OffsetLaws.{Near, near-frame, near-more}
+use Rattle.rules.proofs.OffsetLaws.{near-frame, near-more}
 use Rattle.rules.proofs.SignedLaws.{sum-is, sum-bits-fit, difference-is, difference-bits-fit}
 use Rattle.rules.proofs.SeriesLaws.{frame-at, frame-up, frame-down, frame-ext, offset-list}
 use Rattle.offsets.specs.Held.{offsetAt, slotOf, heldAt, Summed, Cleared, SummedFrom}

@@ -15,7 +15,8 @@ use Rattle.rules.specs.Frames.{Frame, frameOf, writtenOver}
 use Rattle.rules.specs.Planes.{thresholdBit, distance, exclusionBit, bitsBy}
 use Rattle.rules.specs.Bitmaps.{rowWords, bit, word, wordOf, packed}
 use Rattle.rules.proofs.SumLaws.{order, gate-small}
-use Rattle.rules.proofs.FrameLaws.{RowAt, row-more, FrameAt, frame-more, frame-written, row-fits}
+use Rattle.rules.specs.Buffers.{RowAt, FrameAt}
+use Rattle.rules.proofs.FrameLaws.{row-more, frame-more, frame-written, row-fits}
 use Rattle.words.proofs.BitLaws.{word-ext}
 use Rattle.pack.proofs.CaseLaws.{compared}
 use Rattle.pack.proofs.GatherLaws.{columns-turned}

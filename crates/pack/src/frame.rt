@@ -5,7 +5,7 @@ ghost use mathlib.Core.Path.{_≡_};
 ghost use Prim.Native.Nat.{_*_, _≤_};
 ghost use lib.ListN.{length};
 ghost use Rattle.rules.specs.Bitmaps.{rowWords, wordOf};
-ghost use Rattle.rules.proofs.FrameLaws.{FrameAt};
+ghost use Rattle.rules.specs.Buffers.{FrameAt};
 ghost use Rattle.pack.specs.Outside.{outsidePlane};
 
 // A row is packed into both bitmaps while it is in the cache.

@@ -8,7 +8,7 @@ ghost use mathlib.Core.Path.{_≡_};
 ghost use Prim.Native.Nat.{_+_, _*_, _≤_};
 ghost use lib.ListN.{length};
 ghost use Rattle.rules.specs.Bitmaps.{rowWords};
-ghost use Rattle.rules.proofs.FrameLaws.{RowAt};
+ghost use Rattle.rules.specs.Buffers.{RowAt};
 ghost use Rattle.pack.specs.Outside.{flagAt, outsideWord, columnsWord};
 ghost use Rattle.pack.specs.Gathers.{Weighed, byColumns};
 

@@ -5,7 +5,7 @@ ghost use mathlib.Core.Path.{_≡_};
 ghost use Prim.Native.Nat.{_+_, _≤_, _<_};
 ghost use lib.ListN.{length};
 ghost use Rattle.rules.specs.Bitmaps.{bit};
-ghost use Rattle.rules.proofs.FrameLaws.{RowAt};
+ghost use Rattle.rules.specs.Buffers.{RowAt};
 ghost use Rattle.pack.specs.Gathers.{byColumns, turnedAt, exchanged};
 
 // Where bit p of the mask is 1, bits p and p + s of y exchanged.

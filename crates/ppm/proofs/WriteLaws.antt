@@ -11,7 +11,8 @@ use Rattle.text.specs.Digits.{digits}
 use Rattle.text.specs.Puts.{Put}
 use Rattle.text.proofs.PutLaws.{put-length, put-then}
 use Rattle.rules.specs.Refusals.{_when_, _orElse_, badSize, wrongLength, short, rasterLength}
-use Rattle.rules.proofs.RefusalLaws.{when-no, orElse-no, length-is, SizeOk, size-ok}
+use Rattle.rules.specs.Accepted.{SizeOk}
+use Rattle.rules.proofs.RefusalLaws.{when-no, orElse-no, length-is, size-ok}
 use Rattle.ppm.specs.declared.Stored.{Stored}
 use Rattle.ppm.specs.P6.{magic, header, writeRefusal, stored}
 

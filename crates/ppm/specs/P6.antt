@@ -8,7 +8,7 @@ use lib.ListN.{length, getD, drop}
 use Rattle.text.specs.declared.Number.{Number}
 use Rattle.text.specs.Digits.{leading, numberOf, digits}
 use Rattle.rules.specs.Refusals.{_when_, _orElse_, badSize, wrongLength, short, rasterLength}
-use Rattle.rules.specs.Answers.{lent}
+use Rattle.rules.specs.Answers.{bufferAfter}
 use Rattle.ppm.specs.declared.Size.{Size}
 use Rattle.ppm.specs.declared.Held.{Held}
 use Rattle.ppm.specs.declared.Stored.{Stored}
@@ -106,4 +106,4 @@ abbrev pub writeAnswer : ℕ → ℕ → List ℕ → List ℕ → Stored
 writeAnswer w h raster out = stored (writeRefusal w h (length raster) (length out)) (length (p6File w h raster))
 
 abbrev pub writeOut : ℕ → ℕ → List ℕ → List ℕ → List ℕ
-writeOut w h raster out = lent (writeRefusal w h (length raster) (length out)) (p6File w h raster) out
+writeOut w h raster out = bufferAfter (writeRefusal w h (length raster) (length out)) (p6File w h raster) out

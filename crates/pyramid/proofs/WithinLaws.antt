@@ -7,7 +7,8 @@ use lib.ListN.{length, getD, drop}
 use lib.Seq.{getD-drop}
 use Rattle.rules.specs.Frames.{frameOf}
 use Rattle.rules.specs.Greys.{halved}
-use Rattle.rules.proofs.FrameLaws.{RowAt, FrameAt, row-ext}
+use Rattle.rules.specs.Buffers.{RowAt, FrameAt}
+use Rattle.rules.proofs.FrameLaws.{row-ext}
 use Rattle.frame.specs.Places.{secondAt, evenAt, halfAt, Filled, RowFits}
 use Rattle.frame.proofs.PlaceLaws.{even-half, block-more, rest-more, half-more, rows-fit}
 

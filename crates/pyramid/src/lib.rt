@@ -6,7 +6,7 @@ ghost use Prim.Native.Nat.{_+_, _*_, _/_, _≤_};
 ghost use lib.ListN.{length, drop};
 ghost use Rattle.rules.specs.Frames.{frameOf};
 ghost use Rattle.rules.specs.Greys.{halved};
-ghost use Rattle.rules.proofs.FrameLaws.{RowAt, FrameAt};
+ghost use Rattle.rules.specs.Buffers.{RowAt, FrameAt};
 ghost use Rattle.frame.specs.Places.{halfAt, RowFits};
 
 // The first results of two rows, as many whole blocks as n holds. Both rows end at or before `to`,

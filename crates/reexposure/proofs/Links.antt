@@ -13,11 +13,11 @@ use Rattle.rules.specs.Frames.{Frame}
 use Rattle.rules.specs.Greys.{secondSmallest, halved}
 use Rattle.rules.specs.Thresholds.{atMost, reaches, threshold}
 use Rattle.rules.specs.Planes.{thresholdBit, distance, exclusionBit}
-use Rattle.rules.specs.Levels.{Exclusion, planesBy, byTolerance}
+use Rattle.rules.specs.Levels.{ExclusionRule, planesBy, byTolerance}
 use Rattle.rules.proofs.SumLaws.{order, pixels-ext}
 use Rattle.rules.proofs.GreyLaws.{second-formula}
 use Rattle.rules.proofs.ThresholdLaws.{threshold-leb, threshold-ltb}
-use Rattle.rules.proofs.DifferenceLaws.{SamePlanes}
+use Rattle.rules.specs.Differences.{SamePlanes}
 
 -- Q v v′: some pixel has grey v in the one exposure and v′ in the other.
 pub record Link (Q : ℕ → ℕ → Type 0) : Type 0 where
@@ -124,7 +124,7 @@ module _ (Q : ℕ → ℕ → Type 0) (link : Link Q) where
         ∙ sym (threshold-ltb w h percentile g′ (omega arith) p low′ v′ (link .low′ v v′ q))
 
 -- An exclusion rule that sees a level's thresholds only by comparing them with the grey value.
-pub record Fair (exclusion : Exclusion) (percentile : ℕ) : Type 0 where
+pub record Fair (exclusion : ExclusionRule) (percentile : ℕ) : Type 0 where
   pub fair : (t t′ : ℕ → ℕ) (v v′ : ℕ)
       → ((p : ℕ) → 1 ≤ p → p ≤ 99 → (ltb (t p) v ≡ ltb (t′ p) v′) × (leb (t p) v ≡ leb (t′ p) v′))
       → exclusion t percentile v ≡ exclusion t′ percentile v′
@@ -133,7 +133,7 @@ pub record Fair (exclusion : Exclusion) (percentile : ℕ) : Type 0 where
 area : (w h x y : ℕ) → x < w → y < h → 0 < w * h
 area w h x y k l = mul-pos {m = w} {n = h} (omega arith) (omega arith)
 
-pub same-planes : (Q : ℕ → ℕ → Type 0) → Link Q → (exclusion : Exclusion) (percentile w h : ℕ) (g g′ : Frame)
+pub same-planes : (Q : ℕ → ℕ → Type 0) → Link Q → (exclusion : ExclusionRule) (percentile w h : ℕ) (g g′ : Frame)
     → Fair exclusion percentile → 1 ≤ percentile → percentile ≤ 99 → Linked Q w h g g′
     → SamePlanes w h (planesBy exclusion percentile w h g) (planesBy exclusion percentile w h g′)
 unfolding planesBy thresholdBit

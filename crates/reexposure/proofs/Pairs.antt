@@ -5,13 +5,13 @@ use Prim.Native.Nat.{ℕ, zero, suc, _-_, _≤_, _<_}
 use native.Mathlib.Omega.{arith}
 use lib.IntN.{ℤ}
 use Rattle.rules.specs.declared.Offset.{Offset}
-use Rattle.rules.specs.Levels.{Exclusion, Aligned}
+use Rattle.rules.specs.Levels.{ExclusionRule, Aligned}
 use Rattle.rules.specs.Series.{frameOffset, offsetList, countList, answerOf}
 use Rattle.rules.proofs.SeriesLaws.{frame-ext}
 use Rattle.rules.proofs.PairLaws.{Kept}
 use Rattle.reexposure.proofs.Links.{Link, Linked, link-halve, Fair, same-planes}
 
-pub linked-kept : (exclusion : Exclusion) (percentile : ℕ) → Fair exclusion percentile → 1 ≤ percentile → percentile ≤ 99
+pub linked-kept : (exclusion : ExclusionRule) (percentile : ℕ) → Fair exclusion percentile → 1 ≤ percentile → percentile ≤ 99
     → (Q : ℕ → ℕ → Type 0) → Link Q → Kept exclusion percentile (Linked Q)
 linked-kept exclusion percentile fair some most Q link = record {
   planes = λ w h f g linked. same-planes Q link exclusion percentile w h f g fair some most linked;

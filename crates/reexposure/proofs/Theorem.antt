@@ -8,13 +8,13 @@ use lib.Seq.{getD-drop}
 use Rattle.rules.specs.Greys.{grey, greyFrame}
 use Rattle.rules.specs.Planes.{distance}
 use Rattle.rules.specs.declared.Offset.{Offset}
-use Rattle.rules.specs.Levels.{Exclusion, wardOrder, byTolerance, pair}
+use Rattle.rules.specs.Levels.{ExclusionRule, wardOrder, byTolerance, pair, Near, Every}
 use Rattle.rules.specs.Series.{Settings, greyOf, pairOf, frameOffset, answerOf, answerBy, seriesAnswer}
 use Rattle.reexposure.specs.Reexposure.{Reexposed, Bytes, Sound, Bounded, Demand3}
 use Rattle.reexposure.proofs.Links.{Link, Linked, Fair, fair-zero}
 use Rattle.reexposure.proofs.Pairs.{linked-kept, answer-ext}
 use Rattle.rules.proofs.PairLaws.{pair-by}
-use Rattle.rules.proofs.OffsetLaws.{Near, Every, near-pair, near-ward, near-frame, offset-at}
+use Rattle.rules.proofs.OffsetLaws.{near-pair, near-ward, near-frame, offset-at}
 
 -- grey values that some pixel of frame k has in F and in F′
 record Seen (S : Settings) (F F′ : List ℕ) (k : ℕ) (v v′ : ℕ) : Type 0 where
@@ -51,7 +51,7 @@ seen : (S : Settings) (F F′ : List ℕ) (k : ℕ) → Linked (Seen S F F′ k)
 seen S F F′ k x y l m = record { x = x; y = y; inside-x = l; inside-y = m; here = refl; there = refl }
 
 -- every re-exposed series has the same answer
-pub same-answer : (order : List Offset) (exclusion : Exclusion) (S : Settings) (F F′ : List ℕ) → Sound S
+pub same-answer : (order : List Offset) (exclusion : ExclusionRule) (S : Settings) (F F′ : List ℕ) → Sound S
     → ((p : ℕ) → 1 ≤ p → p ≤ 99 → Fair exclusion p) → Bytes F → Bytes F′ → Reexposed S F F′
     → answerBy order exclusion S F ≡ answerBy order exclusion S F′
 unfolding answerBy pairOf
@@ -71,7 +71,7 @@ same-answer order exclusion S F F′ sound fair bytes bytes′ alike =
     (seen S F F′ k) (seen S F F′ (k + 1)))
 
 -- every answer is bounded
-pub bounded : (order : List Offset) → Every (Near 1) order → (exclusion : Exclusion) (S : Settings) (F : List ℕ) → S .reference < S .frames
+pub bounded : (order : List Offset) → Every (Near 1) order → (exclusion : ExclusionRule) (S : Settings) (F : List ℕ) → S .reference < S .frames
     → Bounded S (answerBy order exclusion S F)
 unfolding answerBy answerOf pairOf
 bounded order steps exclusion S F reference = record {

@@ -10,11 +10,12 @@ use lib.ListN.{length, drop, length-append}
 use Rattle.rules.specs.declared.Offset.{Offset}
 use Rattle.rules.specs.declared.Paired.{Paired}
 use Rattle.rules.specs.Frames.{writtenOver}
-use Rattle.rules.specs.Answers.{paired, lent}
+use Rattle.rules.specs.Answers.{paired, bufferAfter}
 use Rattle.rules.specs.Levels.{Aligned}
 use Rattle.rules.specs.Refusals.{_orElse_, pairRefusal}
 use Rattle.rules.specs.Calls.{pairResult}
-use Rattle.rules.proofs.AlignmentLaws.{PairOk, pair-ok}
+use Rattle.rules.specs.Accepted.{PairOk}
+use Rattle.rules.proofs.AlignmentLaws.{pair-ok}
 use Rattle.align.proofs.AlignLaws.{counts-length}
 use Rattle.ppm.specs.declared.Size.{Size}
 use Rattle.ppm.specs.declared.Held.{Held}
@@ -73,7 +74,7 @@ module _ (size : Size) (s tolerance percentile : ℕ) (first second : List ℕ) 
     pub halvings : s ≤ 8
     halvings = pair-ok (size .w) (size .h) s tolerance percentile (length first) (length second) countsLent greyLent wordsLent (accepted .0) .shape .halvings
 
-    pub pair-moved-text : (before after : List ℕ) → after ≡ lent number (result .counts) before
+    pub pair-moved-text : (before after : List ℕ) → after ≡ bufferAfter number (result .counts) before
         → pairText size s tolerance percentile first second ≡ offsetText (m .dx) (m .dy) ++ levelsText s after
     unfolding pairText answerText pairResult
     pair-moved-text before after d =

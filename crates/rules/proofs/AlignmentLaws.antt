@@ -12,14 +12,12 @@ use Rattle.rules.specs.declared.Offset.{Offset}
 use Rattle.rules.specs.declared.Paired.{Paired}
 use Rattle.rules.specs.Limits.{maxTolerance, maxHalvings, maxFrames}
 use Rattle.rules.specs.Bitmaps.{rowWords}
-use Rattle.rules.specs.Refusals.{_when_, _orElse_, badSize, badHalvings, tooSmall, badTolerance, badFrames, badReference, badPercentile, someBadPercentile, badPercentiles, wrongLength, short, rasterLength, countsLength, levelPixels, greyNeeded, wordsNeeded, shortMemory, pairRefusal, seriesRefusal}
+use Rattle.rules.specs.Refusals.{_when_, _orElse_, shapeRefusal, badSize, badHalvings, tooSmall, badTolerance, badFrames, badReference, badPercentile, someBadPercentile, badPercentiles, wrongLength, short, rasterLength, countsLength, levelPixels, greyNeeded, wordsNeeded, shortMemory, pairRefusal, seriesRefusal}
+use Rattle.rules.specs.Accepted.{ShapeOk, SettingsOk, PairOk, FramesOk, SeriesOk, SizeOk}
 use Rattle.rules.specs.Answers.{paired}
-use Rattle.rules.proofs.RefusalLaws.{when-no, orElse-no, or-no, SizeOk, size-ok, length-is, percentile-ok}
+use Rattle.rules.proofs.RefusalLaws.{when-no, orElse-no, or-no, size-ok, length-is, percentile-ok}
 
 -- Conditions that pair and series share, or that a function of its own tests: their number, and the same before the rest.
-abbrev pub shapeNumber : ℕ → ℕ → ℕ → ℕ
-shapeNumber w h s = 2 when badSize w h orElse 3 when badHalvings s orElse 4 when tooSmall w h s
-
 abbrev pub shapeThen : ℕ → ℕ → ℕ → ℕ → ℕ
 shapeThen w h s rest = 2 when badSize w h orElse 3 when badHalvings s orElse 4 when tooSmall w h s orElse rest
 
@@ -39,7 +37,7 @@ orElse-assoc : (a b c : ℕ) → (a orElse b) orElse c ≡ a orElse b orElse c
 orElse-assoc zero b c = refl
 orElse-assoc (suc a) b c = refl
 
-shape-apart : (w h s rest : ℕ) → shapeNumber w h s orElse rest ≡ shapeThen w h s rest
+shape-apart : (w h s rest : ℕ) → shapeRefusal w h s orElse rest ≡ shapeThen w h s rest
 shape-apart w h s rest = simp orElse-assoc
 
 settings-apart : (w h s tolerance rest : ℕ) → settingsNumber w h s tolerance orElse rest ≡ settingsThen w h s tolerance rest
@@ -56,11 +54,11 @@ first-is k (suc a) b e l = e
 first-none : (k a b : ℕ) → k ≡ a → k ≡ 0 → a orElse b ≡ b
 first-none k a b e z = rw (sym e ∙ z)
 
-pub shape-first : (w h s k rest : ℕ) → k ≡ shapeNumber w h s → (k ≡ 0 → ⊥) → k ≡ shapeThen w h s rest
-shape-first w h s k rest e l = first-is k (shapeNumber w h s) rest e l ∙ shape-apart w h s rest
+pub shape-first : (w h s k rest : ℕ) → k ≡ shapeRefusal w h s → (k ≡ 0 → ⊥) → k ≡ shapeThen w h s rest
+shape-first w h s k rest e l = first-is k (shapeRefusal w h s) rest e l ∙ shape-apart w h s rest
 
-pub shape-pass : (w h s k : ℕ) → k ≡ shapeNumber w h s → k ≡ 0 → (rest : ℕ) → shapeThen w h s rest ≡ rest
-shape-pass w h s k e z rest = sym (shape-apart w h s rest) ∙ first-none k (shapeNumber w h s) rest e z
+pub shape-pass : (w h s k : ℕ) → k ≡ shapeRefusal w h s → k ≡ 0 → (rest : ℕ) → shapeThen w h s rest ≡ rest
+shape-pass w h s k e z rest = sym (shape-apart w h s rest) ∙ first-none k (shapeRefusal w h s) rest e z
 
 pub settings-first : (w h s tolerance k rest : ℕ) → k ≡ settingsNumber w h s tolerance → (k ≡ 0 → ⊥) → k ≡ settingsThen w h s tolerance rest
 settings-first w h s tolerance k rest e l = first-is k (settingsNumber w h s tolerance) rest e l ∙ settings-apart w h s tolerance rest
@@ -74,14 +72,7 @@ frames-first n r k rest e l = first-is k (framesNumber n r) rest e l ∙ frames-
 pub frames-pass : (n r k : ℕ) → k ≡ framesNumber n r → k ≡ 0 → (rest : ℕ) → framesThen n r rest ≡ rest
 frames-pass n r k e z rest = sym (frames-apart n r rest) ∙ first-none k (framesNumber n r) rest e z
 
--- "A pair has s halvings, 0 to 8": the smallest level still has 4 pixels each way.
-pub record ShapeOk (w h s : ℕ) : Type 0 where
-  pub size : SizeOk w h
-  pub halvings : s ≤ 8
-  pub wide : 2 ^ (s + 2) ≤ w
-  pub high : 2 ^ (s + 2) ≤ h
-
-shape-ok : (w h s : ℕ) → shapeNumber w h s ≡ 0 → ShapeOk w h s
+pub shape-ok : (w h s : ℕ) → shapeRefusal w h s ≡ 0 → ShapeOk w h s
 unfolding badHalvings tooSmall
 shape-ok w h s e =
     let least : ℕ = 2 ^ (s + 2) in
@@ -97,15 +88,11 @@ shape-ok w h s e =
       high = ltb-false h least (t .1);
     }
 
-pub record SettingsOk (w h s tolerance : ℕ) : Type 0 where
-  pub shape : ShapeOk w h s
-  pub limit : tolerance ≤ 64
-
 settings-ok : (w h s tolerance : ℕ) → settingsNumber w h s tolerance ≡ 0 → SettingsOk w h s tolerance
 unfolding badTolerance
 settings-ok w h s tolerance e =
     let n5 : ℕ = 5 when badTolerance tolerance in
-    let p = orElse-no (shapeNumber w h s) n5 (shape-apart w h s n5 ∙ e) in
+    let p = orElse-no (shapeRefusal w h s) n5 (shape-apart w h s n5 ∙ e) in
     record {
       shape = shape-ok w h s (p .0);
       limit = ltb-false maxTolerance tolerance (when-no 5 (badTolerance tolerance) (omega arith) (p .1));
@@ -147,17 +134,6 @@ memory-ok s w h grey words e =
     let p = or-no g v (when-no 11 (g || v) (omega arith) e) in
     (ltb-false grey (greyNeeded s w h) (p .0), ltb-false words (wordsNeeded w h) (p .1))
 
-pub record PairOk (w h s tolerance percentile first second counts grey words : ℕ) : Type 0 where
-  pub shape : ShapeOk w h s
-  pub limit : tolerance ≤ 64
-  pub least : 1 ≤ percentile
-  pub most : percentile ≤ 99
-  pub exact1 : first ≡ 3 * (w * h)
-  pub exact2 : second ≡ 3 * (w * h)
-  pub room : 9 * (s + 1) ≤ counts
-  pub greys : greyNeeded s w h ≤ grey
-  pub bitmaps : 6 * (rowWords w * h) ≤ words
-
 pub pair-ok : (w h s tolerance percentile first second counts grey words : ℕ)
     → pairRefusal w h s tolerance percentile first second counts grey words ≡ 0
     → PairOk w h s tolerance percentile first second counts grey words
@@ -190,11 +166,6 @@ pair-ok w h s tolerance percentile first second counts grey words e =
       bitmaps = m .1;
     }
 
-pub record FramesOk (n r : ℕ) : Type 0 where
-  pub least : 0 < n
-  pub most : n ≤ 16
-  pub reference : r < n
-
 frames-ok : (n r : ℕ) → framesNumber n r ≡ 0 → FramesOk n r
 unfolding badFrames badReference
 frames-ok n r e =
@@ -216,19 +187,6 @@ unfolding someBadPercentile
 percentiles-ok [] e k l = absurd (omega arith)
 percentiles-ok (p ∷ ps) e zero l = percentile-ok p (or-no (badPercentile p) (someBadPercentile ps) e .0)
 percentiles-ok (p ∷ ps) e (suc k) l = percentiles-ok ps (or-no (badPercentile p) (someBadPercentile ps) e .1) k (le-of-suc-le-suc l)
-
-pub record SeriesOk (w h s tolerance n r : ℕ) (ps : List ℕ) (rasters offsets counts grey words : ℕ) : Type 0 where
-  pub shape : ShapeOk w h s
-  pub limit : tolerance ≤ 64
-  pub frames : (0 < n) × (n ≤ 16)
-  pub reference : r < n
-  pub percentiles : length ps ≡ n - 1
-  pub percentile : (k : ℕ) → k < n - 1 → (1 ≤ getD ps k 0) × (getD ps k 0 ≤ 99)
-  pub exact : rasters ≡ n * (3 * (w * h))
-  pub room1 : 2 * n ≤ offsets
-  pub room2 : 9 * (s + 1) * (n - 1) ≤ counts
-  pub greys : greyNeeded s w h ≤ grey
-  pub bitmaps : 6 * (rowWords w * h) ≤ words
 
 pub series-ok : (w h s tolerance n r : ℕ) (ps : List ℕ) (rasters offsets counts grey words : ℕ)
     → seriesRefusal w h s tolerance n r ps rasters offsets counts grey words ≡ 0

@@ -7,7 +7,7 @@ use lib.IntN.{ℤ, pos, negsuc, _-ℤ_}
 use borrow.Author.Tests.{le-ltb}
 use Rattle.rules.specs.Sums.{gate}
 use Rattle.rules.specs.Planes.{within}
-use Rattle.rules.specs.Differences.{Planes, differ, differAt, difference}
+use Rattle.rules.specs.Differences.{Planes, SamePlanes, differ, differAt, difference}
 use Rattle.rules.proofs.SumLaws.{order, pixels-ext}
 
 pub within-ext : (n : ℕ) (z : ℤ) (f g : ℕ → ℕ) → ((k : ℕ) → k < n → f k ≡ g k) → within n z f ≡ within n z g
@@ -15,11 +15,6 @@ unfolding within
 within-ext n (pos k) f g e =
     ⊎-elim (λ (l : k < n). ap (gate (ltb k n)) (e k l)) (λ (l : n ≤ k). rw (le-ltb k n l)) (order k n)
 within-ext n (negsuc k) f g e = refl
-
--- the same bits at every pixel of the frame
-pub record SamePlanes (w h : ℕ) (a b : Planes) : Type 0 where
-  pub thresholds : (x y : ℕ) → x < w → y < h → a .threshold x y ≡ b .threshold x y
-  pub exclusions : (x y : ℕ) → x < w → y < h → a .exclusion x y ≡ b .exclusion x y
 
 pub difference-ext : (w h : ℕ) (dx dy : ℤ) (a a′ b b′ : Planes) → SamePlanes w h a a′ → SamePlanes w h b b′
     → difference w h dx dy a b ≡ difference w h dx dy a′ b′

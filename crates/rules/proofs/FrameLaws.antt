@@ -9,6 +9,7 @@ use native.Mathlib.Omega.{arith}
 use lib.ListN.{length, getD, drop, set, length-append, length-drop, length-set, List·getD-append}
 use lib.Seq.{getD-append-add, getD-set-same, getD-set-other, getD-drop, ext-getD}
 use Rattle.rules.specs.Frames.{Frame, row, rows, writtenOver}
+use Rattle.rules.specs.Buffers.{RowAt, FrameAt}
 use Rattle.rules.proofs.SumLaws.{order}
 
 pub length-row : (n : ℕ) (f : ℕ → ℕ) → length (row n f) ≡ n
@@ -104,13 +105,6 @@ written-is w h f old new len room done excess = ext-getD 0 new (writtenOver (row
         ∙ sym (getD-append-add (rows w h f) (drop n old) (i - n) 0)
         ∙ ap (λ (j : ℕ). getD (writtenOver (rows w h f) old) j 0) e
 
--- What a loop over one row keeps: the first n numbers from place `to` on are f's, and nothing else has changed.
-pub record RowAt (to : ℕ) (f : ℕ → ℕ) (before : List ℕ) (n : ℕ) (after : List ℕ) : Type 0 where
-  pub len : length after ≡ length before
-  pub under : (m : ℕ) → m < to → getD after m 0 ≡ getD before m 0
-  pub done : (k : ℕ) → k < n → getD after (to + k) 0 ≡ f k
-  pub over : (m : ℕ) → to + n ≤ m → getD after m 0 ≡ getD before m 0
-
 pub row-none : (to : ℕ) (f : ℕ → ℕ) (before : List ℕ) → RowAt to f before 0 before
 row-none to f before = record { len = refl; under = λ m l. refl; done = λ k l. absurd (omega arith); over = λ m l. refl }
 
@@ -137,13 +131,6 @@ row-more to f before n after v room r e = record {
 pub row-ext : (to : ℕ) (f g : ℕ → ℕ) (before after : List ℕ) (n : ℕ) → ((k : ℕ) → k < n → f k ≡ g k)
     → RowAt to f before n after → RowAt to g before n after
 row-ext to f g before after n same r = record { len = r .len; under = r .under; done = λ k l. r .done k l ∙ same k l; over = r .over }
-
--- What a loop over rows keeps: the first y rows of w numbers from place `to` on are the frame's, and nothing else has changed.
-pub record FrameAt (to w : ℕ) (f : Frame) (before : List ℕ) (y : ℕ) (after : List ℕ) : Type 0 where
-  pub len : length after ≡ length before
-  pub under : (m : ℕ) → m < to → getD after m 0 ≡ getD before m 0
-  pub done : (x z : ℕ) → x < w → z < y → getD after (to + (z * w + x)) 0 ≡ f x z
-  pub over : (m : ℕ) → to + y * w ≤ m → getD after m 0 ≡ getD before m 0
 
 pub frame-none : (to w : ℕ) (f : Frame) (before : List ℕ) → FrameAt to w f before 0 before
 frame-none to w f before = record { len = refl; under = λ m l. refl; done = λ x z k l. absurd (omega arith); over = λ m l. refl }

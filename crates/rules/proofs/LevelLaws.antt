@@ -9,7 +9,7 @@ use lib.IntN.{ℤ, pos, negsuc}
 use lib.ListN.{length, getD}
 use borrow.Author.Tests.{ltb-true, ltb-false}
 use Rattle.rules.specs.declared.Offset.{Offset}
-use Rattle.rules.specs.Levels.{still, added, wardOrder, firstLeast, chosen}
+use Rattle.rules.specs.Levels.{still, added, wardOrder, firstLeast, chosen, candidateAt, stepOf}
 
 -- place r of a list has the least count, and every place before it a greater one
 pub record FirstLeast (count : Offset → ℕ) (ms : List Offset) (r : ℕ) : Type 0 where
@@ -60,16 +60,6 @@ pub chosen-is : (count : Offset → ℕ) (ms : List Offset) (r : ℕ) → FirstL
 unfolding chosen
 chosen-is count [] r p = absurd (let l = p .inside in omega arith)
 chosen-is count (m ∷ ms) r p = first-least-is count m ms r p
-
--- candidate k of the nine around a centre, in Ward's order
-abbrev pub candidateAt : Offset → ℕ → Offset
-candidateAt centre k = getD (map (added centre) wardOrder) k still
-
--- its step on an axis, from quotient and remainder of its place by 3
-abbrev pub stepOf : ℕ → ℤ
-stepOf zero = negsuc 0
-stepOf (suc zero) = pos 0
-stepOf (suc (suc i)) = pos 1
 
 pub candidate-is : (centre : Offset) (k : ℕ) → k < 9 → candidateAt centre k ≡ added centre (record { dx = stepOf (k / 3); dy = stepOf (k % 3) })
 candidate-is centre zero l = refl

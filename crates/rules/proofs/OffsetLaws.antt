@@ -16,14 +16,9 @@ use Rattle.rules.specs.Frames.{Frame}
 use Rattle.rules.specs.Greys.{halved}
 use Rattle.rules.specs.Planes.{distance}
 use Rattle.rules.specs.declared.Offset.{Offset}
-use Rattle.rules.specs.Levels.{still, added, Exclusion, wardOrder, firstLeast, chosen, level, countAt, pair}
+use Rattle.rules.specs.Levels.{still, added, Near, Every, ExclusionRule, wardOrder, firstLeast, chosen, level, countAt, pair}
 use Rattle.rules.specs.Series.{sumFrom, opposite, frameOffset, offsetList}
 use Rattle.rules.proofs.SumLaws.{order}
-
--- at most n in size on each axis
-pub record Near (n : ℕ) (m : Offset) : Type 0 where
-  pub dx : natAbs (m .dx) ≤ n
-  pub dy : natAbs (m .dy) ≤ n
 
 abs-sub : (a b : ℕ) → natAbs (subℕ a b) ≤ max a b
 abs-sub a b =
@@ -55,11 +50,6 @@ near-opposite n a p = record { dx = rw (abs-neg (a .dx)) (p .dx); dy = rw (abs-n
 pub near-more : (m n : ℕ) (a : Offset) → m ≤ n → Near m a → Near n a
 near-more m n a l p = record { dx = let c = p .dx in omega arith; dy = let c = p .dy in omega arith }
 
--- every offset of a list
-abbrev pub Every : (Offset → Type 0) → List Offset → Type 0
-Every P [] = Unit {0}
-Every P (m ∷ ms) = P m × Every P ms
-
 first-every : (P : Offset → Type 0) (count : Offset → ℕ) (best : Offset) (ms : List Offset) → P best → Every P ms → P (firstLeast count best ms)
 unfolding firstLeast
 first-every P count best [] p all = p
@@ -88,7 +78,7 @@ near-level order steps count n centre coarser c =
     chosen-every (Near (n + 1)) count (map (added centre) order) (near-still (n + 1)) (near-candidates n centre order c steps)
 
 -- "its function reaches 2^(s+1)−1"
-pub near-pair : (order : List Offset) → Every (Near 1) order → (exclusion : Exclusion) (percentile s w h : ℕ) (a b : Frame)
+pub near-pair : (order : List Offset) → Every (Near 1) order → (exclusion : ExclusionRule) (percentile s w h : ℕ) (a b : Frame)
     → Near (2 ^ suc s - 1) (pair order exclusion percentile s w h a b .offset)
 unfolding pair
 near-pair order steps exclusion percentile zero w h a b = near-level order steps (countAt exclusion percentile w h a b) 0 still [] (near-still 0)

@@ -7,20 +7,21 @@ use lib.Dec.{leb}
 use Rattle.rules.specs.declared.Offset.{Offset}
 use Rattle.rules.specs.Limits.{maxGrey}
 use Rattle.rules.specs.Sums.{oneIf}
-use Rattle.rules.specs.Frames.{Frame}
+use Rattle.rules.specs.Frames.{Frame, SameFrame}
 use Rattle.rules.specs.Greys.{secondSmallest, halved}
 use Rattle.rules.specs.Thresholds.{atMost, reaches, least, threshold}
 use Rattle.rules.specs.Planes.{thresholdBit}
-use Rattle.rules.specs.Levels.{still, added, Exclusion, planesBy, Aligned, level, countAt, pair}
+use Rattle.rules.specs.Levels.{still, added, ExclusionRule, planesBy, Aligned, level, countAt, pair}
 use Rattle.rules.proofs.SumLaws.{pixels-ext}
-use Rattle.rules.proofs.DifferenceLaws.{SamePlanes, difference-ext}
+use Rattle.rules.specs.Differences.{SamePlanes}
+use Rattle.rules.proofs.DifferenceLaws.{difference-ext}
 
 -- What a pair's answer rests on: relations of frames that give the same planes at a level, and that halving keeps.
-pub record Kept (exclusion : Exclusion) (percentile : ℕ) (K : ℕ → ℕ → Frame → Frame → Type 0) : Type 0 where
+pub record Kept (exclusion : ExclusionRule) (percentile : ℕ) (K : ℕ → ℕ → Frame → Frame → Type 0) : Type 0 where
   pub planes : (w h : ℕ) (f g : Frame) → K w h f g → SamePlanes w h (planesBy exclusion percentile w h f) (planesBy exclusion percentile w h g)
   pub halves : (w h : ℕ) (f g : Frame) → K w h f g → K (w / 2) (h / 2) (halved f) (halved g)
 
-module _ (order : List Offset) (exclusion : Exclusion) (percentile : ℕ) (K L : ℕ → ℕ → Frame → Frame → Type 0) (k : Kept exclusion percentile K) (l : Kept exclusion percentile L) where
+module _ (order : List Offset) (exclusion : ExclusionRule) (percentile : ℕ) (K L : ℕ → ℕ → Frame → Frame → Type 0) (k : Kept exclusion percentile K) (l : Kept exclusion percentile L) where
   pub count-by : (w h : ℕ) (a a′ b b′ : Frame) → K w h a a′ → L w h b b′
       → countAt exclusion percentile w h a b ≡ countAt exclusion percentile w h a′ b′
   unfolding countAt
@@ -39,10 +40,6 @@ module _ (order : List Offset) (exclusion : Exclusion) (percentile : ℕ) (K L :
       (count-by w h a a′ b b′ p q)
       (pair-by s (w / 2) (h / 2) (halved a) (halved a′) (halved b) (halved b′) (k .halves w h a a′ p) (l .halves w h b b′ q))
 
--- the same grey at every pixel
-abbrev pub SameFrame : ℕ → ℕ → Frame → Frame → Type 0
-SameFrame w h f g = (x y : ℕ) → x < w → y < h → f x y ≡ g x y
-
 pub threshold-ext : (w h : ℕ) (f g : Frame) → SameFrame w h f g → (p : ℕ) → threshold w h p f ≡ threshold w h p g
 unfolding threshold reaches atMost
 threshold-ext w h f g e p =
@@ -50,7 +47,7 @@ threshold-ext w h f g e p =
     (fun-ext (λ v. ap (λ (n : ℕ). leb (p * (w * h)) (100 * n))
     (pixels-ext w h (λ x y. oneIf (leb (f x y) v)) (λ x y. oneIf (leb (g x y) v)) (λ x y k l. ap (λ (a : ℕ). oneIf (leb a v)) (e x y k l)))))
 
-pub planes-ext : (exclusion : Exclusion) (percentile w h : ℕ) (f g : Frame) → SameFrame w h f g
+pub planes-ext : (exclusion : ExclusionRule) (percentile w h : ℕ) (f g : Frame) → SameFrame w h f g
     → SamePlanes w h (planesBy exclusion percentile w h f) (planesBy exclusion percentile w h g)
 unfolding planesBy
 planes-ext exclusion percentile w h f g e = record {
@@ -68,14 +65,14 @@ halved-ext w h f g e x y k l =
     (e (2 * x + 1) (2 * y + 1) (omega arith) (omega arith) i)
 
 -- the same pixels: any order, any exclusion rule
-pub same-kept : (exclusion : Exclusion) (percentile : ℕ) → Kept exclusion percentile SameFrame
+pub same-kept : (exclusion : ExclusionRule) (percentile : ℕ) → Kept exclusion percentile SameFrame
 same-kept exclusion percentile = record { planes = planes-ext exclusion percentile; halves = halved-ext }
 
-pub count-ext : (exclusion : Exclusion) (percentile w h : ℕ) (a a′ b b′ : Frame) → SameFrame w h a a′ → SameFrame w h b b′
+pub count-ext : (exclusion : ExclusionRule) (percentile w h : ℕ) (a a′ b b′ : Frame) → SameFrame w h a a′ → SameFrame w h b b′
     → countAt exclusion percentile w h a b ≡ countAt exclusion percentile w h a′ b′
 count-ext exclusion percentile = count-by [] exclusion percentile SameFrame SameFrame (same-kept exclusion percentile) (same-kept exclusion percentile)
 
-pub pair-ext : (order : List Offset) (exclusion : Exclusion) (percentile s w h : ℕ) (a a′ b b′ : Frame)
+pub pair-ext : (order : List Offset) (exclusion : ExclusionRule) (percentile s w h : ℕ) (a a′ b b′ : Frame)
     → SameFrame w h a a′ → SameFrame w h b b′
     → pair order exclusion percentile s w h a b ≡ pair order exclusion percentile s w h a′ b′
 pair-ext order exclusion percentile = pair-by order exclusion percentile SameFrame SameFrame (same-kept exclusion percentile) (same-kept exclusion percentile)

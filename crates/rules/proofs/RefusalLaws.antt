@@ -13,7 +13,8 @@ use Rattle.rules.specs.declared.Thresholded.{Thresholded}
 use Rattle.rules.specs.Limits.{maxSide, maxTolerance}
 use Rattle.rules.specs.Bitmaps.{rowWords}
 use Rattle.rules.specs.Refusals.{_when_, _orElse_, badSide, badSize, unhalvable, badTolerance, badPercentile, wrongLength, short, rasterLength, greyLength, bitmapLength, greyRefusal, halveRefusal, thresholdRefusal, bitmapsRefusal, shiftRefusal, totalRefusal, differenceRefusal}
-use Rattle.rules.specs.Answers.{written, counted, thresholded, lent}
+use Rattle.rules.specs.Accepted.{SizeOk, GreyOk, HalveOk, ThresholdOk, BitmapsOk, ShiftOk, TotalOk, DifferenceOk}
+use Rattle.rules.specs.Answers.{written, counted, thresholded, bufferAfter}
 
 -- A number that is not given: its condition does not apply.
 pub when-no : (n : ℕ) (c : Bool) → 0 < n → n when c ≡ 0 → c ≡ false
@@ -39,16 +40,6 @@ orElse-no (suc a) b e = absurd (omega arith)
 pub or-no : (a b : Bool) → a || b ≡ false → (a ≡ false) × (b ≡ false)
 or-no true b e = absurd (true≢false e)
 or-no false b e = (refl, e)
-
--- sizes within their limits
-pub record SizeOk (w h : ℕ) : Type 0 where
-  pub wide : 0 < w
-  pub width : w ≤ 4096
-  pub high : 0 < h
-  pub height : h ≤ 4096
-  pub area : w * h ≤ 16777216
-  pub rowOfWords : rowWords w ≤ 64
-  pub bitmap : rowWords w * h ≤ 262144
 
 side-ok : (n : ℕ) → badSide n ≡ false → (0 < n) × (n ≤ 4096)
 unfolding badSide
@@ -80,12 +71,6 @@ size-told w h n e z = size-ok w h (sym e ∙ z)
 pub length-is : (needed length : ℕ) → wrongLength needed length ≡ false → length ≡ needed
 length-is needed length e = eqb-true length needed (not-false (eqb length needed) e)
 
--- What an accepted call knows.
-pub record GreyOk (w h raster grey : ℕ) : Type 0 where
-  pub size : SizeOk w h
-  pub exact : raster ≡ 3 * (w * h)
-  pub room : w * h ≤ grey
-
 pub grey-ok : (w h raster grey : ℕ) → greyRefusal w h raster grey ≡ 0 → GreyOk w h raster grey
 unfolding greyRefusal
 grey-ok w h raster grey e =
@@ -96,13 +81,6 @@ grey-ok w h raster grey e =
       exact = length-is (rasterLength w h) raster (when-no 9 (wrongLength (rasterLength w h) raster) (omega arith) (q .0));
       room = ltb-false grey (greyLength w h) (when-no 10 (short (greyLength w h) grey) (omega arith) (q .1));
     }
-
-pub record HalveOk (w h grey out : ℕ) : Type 0 where
-  pub size : SizeOk w h
-  pub wide : 2 ≤ w
-  pub high : 2 ≤ h
-  pub exact : grey ≡ w * h
-  pub room : w / 2 * (h / 2) ≤ out
 
 pub halve-ok : (w h grey out : ℕ) → halveRefusal w h grey out ≡ 0 → HalveOk w h grey out
 unfolding halveRefusal unhalvable
@@ -121,12 +99,6 @@ halve-ok w h grey out e =
       exact = length-is (greyLength w h) grey (when-no 9 (wrongLength (greyLength w h) grey) (omega arith) (r .0));
       room = ltb-false out (greyLength (w / 2) (h / 2)) (when-no 10 (short (greyLength (w / 2) (h / 2)) out) (omega arith) (r .1));
     }
-
-pub record ThresholdOk (w h percentile grey : ℕ) : Type 0 where
-  pub size : SizeOk w h
-  pub least : 1 ≤ percentile
-  pub most : percentile ≤ 99
-  pub exact : grey ≡ w * h
 
 pub percentile-ok : (p : ℕ) → badPercentile p ≡ false → (1 ≤ p) × (p ≤ 99)
 unfolding badPercentile
@@ -159,13 +131,6 @@ threshold-ok w h percentile grey e =
       exact = length-is (greyLength w h) grey (when-no 9 (wrongLength (greyLength w h) grey) (omega arith) (q .1));
     }
 
-pub record BitmapsOk (w h tolerance grey thresholds exclusions : ℕ) : Type 0 where
-  pub size : SizeOk w h
-  pub most : tolerance ≤ 64
-  pub exact : grey ≡ w * h
-  pub room1 : rowWords w * h ≤ thresholds
-  pub room2 : rowWords w * h ≤ exclusions
-
 pub bitmaps-ok : (w h tolerance grey thresholds exclusions : ℕ) → bitmapsRefusal w h tolerance grey thresholds exclusions ≡ 0
     → BitmapsOk w h tolerance grey thresholds exclusions
 unfolding bitmapsRefusal badTolerance
@@ -187,11 +152,6 @@ bitmaps-ok w h tolerance grey thresholds exclusions e =
       room2 = ltb-false exclusions (bitmapLength w h) (s .1);
     }
 
-pub record ShiftOk (w h bitmap out : ℕ) : Type 0 where
-  pub size : SizeOk w h
-  pub exact : bitmap ≡ rowWords w * h
-  pub room : rowWords w * h ≤ out
-
 pub shift-ok : (w h bitmap out : ℕ) → shiftRefusal w h bitmap out ≡ 0 → ShiftOk w h bitmap out
 unfolding shiftRefusal
 shift-ok w h bitmap out e =
@@ -205,10 +165,6 @@ shift-ok w h bitmap out e =
       room = ltb-false out (bitmapLength w h) (when-no 10 (short (bitmapLength w h) out) (omega arith) (q .1));
     }
 
-pub record TotalOk (w h bitmap : ℕ) : Type 0 where
-  pub size : SizeOk w h
-  pub exact : bitmap ≡ rowWords w * h
-
 pub total-ok : (w h bitmap : ℕ) → totalRefusal w h bitmap ≡ 0 → TotalOk w h bitmap
 unfolding totalRefusal
 total-ok w h bitmap e =
@@ -218,13 +174,6 @@ total-ok w h bitmap e =
       size = size-ok w h (p .0);
       exact = length-is (bitmapLength w h) bitmap (when-no 9 (wrongLength (bitmapLength w h) bitmap) (omega arith) (p .1));
     }
-
-pub record DifferenceOk (w h threshold1 exclusion1 threshold2 exclusion2 : ℕ) : Type 0 where
-  pub size : SizeOk w h
-  pub exact1 : threshold1 ≡ rowWords w * h
-  pub exact2 : exclusion1 ≡ rowWords w * h
-  pub exact3 : threshold2 ≡ rowWords w * h
-  pub exact4 : exclusion2 ≡ rowWords w * h
 
 pub difference-ok : (w h threshold1 exclusion1 threshold2 exclusion2 : ℕ)
     → differenceRefusal w h threshold1 exclusion1 threshold2 exclusion2 ≡ 0
@@ -261,6 +210,6 @@ pub thresholded-refused : (n v : ℕ) → (n ≡ 0 → ⊥) → Thresholded.Refu
 thresholded-refused zero v l = absurd (l refl)
 thresholded-refused (suc n) v l = refl
 
-pub lent-refused : {A : Type 0} (n : ℕ) (out before : List A) → (n ≡ 0 → ⊥) → before ≡ lent n out before
-lent-refused zero out before l = absurd (l refl)
-lent-refused (suc n) out before l = refl
+pub buffer-refused : {A : Type 0} (n : ℕ) (out before : List A) → (n ≡ 0 → ⊥) → before ≡ bufferAfter n out before
+buffer-refused zero out before l = absurd (l refl)
+buffer-refused (suc n) out before l = refl

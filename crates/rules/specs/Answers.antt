@@ -26,6 +26,6 @@ paired zero m = Paired.Moved m
 paired (suc n) m = Paired.Refused (suc n)
 
 -- what a lent buffer holds after a call with this refusal number: the output over what it held, or what it held
-abbrev pub lent : {A : Type 0} → ℕ → List A → List A → List A
-lent zero out before = writtenOver out before
-lent (suc n) out before = before
+abbrev pub bufferAfter : {A : Type 0} → ℕ → List A → List A → List A
+bufferAfter zero out before = writtenOver out before
+bufferAfter (suc n) out before = before

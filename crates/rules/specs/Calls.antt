@@ -15,21 +15,21 @@ use Rattle.rules.specs.Differences.{Planes, difference}
 use Rattle.rules.specs.Levels.{wardOrder, byTolerance, Aligned, pair}
 use Rattle.rules.specs.Refusals.{greyRefusal, halveRefusal, thresholdRefusal, bitmapsRefusal, shiftRefusal, totalRefusal, differenceRefusal, pairRefusal, seriesRefusal}
 use Rattle.rules.specs.Series.{Settings}
-use Rattle.rules.specs.Answers.{written, counted, thresholded, lent}
+use Rattle.rules.specs.Answers.{written, counted, thresholded, bufferAfter}
 
 -- Grey conversion of a raster into a lent grey frame.
 abbrev pub greyAnswer : ℕ → ℕ → List ℕ → List ℕ → Written
 greyAnswer w h raster grey = written (greyRefusal w h (length raster) (length grey))
 
 abbrev pub greyOut : ℕ → ℕ → List ℕ → List ℕ → List ℕ
-greyOut w h raster grey = lent (greyRefusal w h (length raster) (length grey)) (rows w h (greyFrame w raster)) grey
+greyOut w h raster grey = bufferAfter (greyRefusal w h (length raster) (length grey)) (rows w h (greyFrame w raster)) grey
 
 -- Halving of a grey frame into a lent one.
 abbrev pub halveAnswer : ℕ → ℕ → List ℕ → List ℕ → Written
 halveAnswer w h grey out = written (halveRefusal w h (length grey) (length out))
 
 abbrev pub halveOut : ℕ → ℕ → List ℕ → List ℕ → List ℕ
-halveOut w h grey out = lent (halveRefusal w h (length grey) (length out)) (rows (w / 2) (h / 2) (halved (frameOf w grey))) out
+halveOut w h grey out = bufferAfter (halveRefusal w h (length grey) (length out)) (rows (w / 2) (h / 2) (halved (frameOf w grey))) out
 
 -- Threshold of a grey frame for a percentile.
 abbrev pub thresholdAnswer : ℕ → ℕ → ℕ → List ℕ → Thresholded
@@ -41,11 +41,11 @@ bitmapsNumber w h tolerance grey thresholds exclusions = bitmapsRefusal w h tole
 
 abbrev pub thresholdsOut : ℕ → ℕ → ℕ → ℕ → List ℕ → List ℕ → List ℕ → List ℕ
 thresholdsOut w h t tolerance grey thresholds exclusions =
-    lent (bitmapsNumber w h tolerance grey thresholds exclusions) (packed w h (bitsBy (thresholdBit t) (frameOf w grey))) thresholds
+    bufferAfter (bitmapsNumber w h tolerance grey thresholds exclusions) (packed w h (bitsBy (thresholdBit t) (frameOf w grey))) thresholds
 
 abbrev pub exclusionsOut : ℕ → ℕ → ℕ → ℕ → List ℕ → List ℕ → List ℕ → List ℕ
 exclusionsOut w h t tolerance grey thresholds exclusions =
-    lent (bitmapsNumber w h tolerance grey thresholds exclusions) (packed w h (bitsBy (exclusionBit t tolerance) (frameOf w grey))) exclusions
+    bufferAfter (bitmapsNumber w h tolerance grey thresholds exclusions) (packed w h (bitsBy (exclusionBit t tolerance) (frameOf w grey))) exclusions
 
 -- Shift of a lent bitmap into a lent one.
 abbrev pub shiftAnswer : ℕ → ℕ → List ℕ → List ℕ → Written
@@ -53,7 +53,7 @@ shiftAnswer w h bitmap out = written (shiftRefusal w h (length bitmap) (length o
 
 abbrev pub shiftOut : ℕ → ℕ → ℤ → ℤ → List ℕ → List ℕ → List ℕ
 shiftOut w h dx dy bitmap out =
-    lent (shiftRefusal w h (length bitmap) (length out)) (packed w h (shifted w h dx dy (bitAt w h bitmap))) out
+    bufferAfter (shiftRefusal w h (length bitmap) (length out)) (packed w h (shifted w h dx dy (bitAt w h bitmap))) out
 
 -- Total of a lent bitmap.
 abbrev pub totalAnswer : ℕ → ℕ → List ℕ → Counted

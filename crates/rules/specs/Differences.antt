@@ -1,6 +1,7 @@
 -- The difference count of two frames' bit planes.
+use mathlib.Core.Path.{_≡_}
 use mathlib.Core.Bool.{_&&_, not}
-use Prim.Native.Nat.{ℕ}
+use Prim.Native.Nat.{ℕ, _<_}
 use lib.Dec.{eqb}
 use lib.IntN.{ℤ, pos, _-ℤ_}
 use Rattle.rules.specs.Sums.{oneIf, sumPixels}
@@ -11,6 +12,11 @@ use Rattle.rules.specs.Planes.{within}
 pub record Planes : Type 0 where
   pub threshold : Frame
   pub exclusion : Frame
+
+-- the same bits at every pixel of the frame
+pub record SamePlanes (w h : ℕ) (a b : Planes) : Type 0 where
+  pub thresholds : (x y : ℕ) → x < w → y < h → a .threshold x y ≡ b .threshold x y
+  pub exclusions : (x y : ℕ) → x < w → y < h → a .exclusion x y ≡ b .exclusion x y
 
 -- 1 for two pixels "with both exclusion bits 1 and the threshold bits unequal", else 0
 unfoldable pub differ : Planes → Planes → ℕ → ℕ → ℕ → ℕ → ℕ

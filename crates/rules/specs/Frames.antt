@@ -1,11 +1,16 @@
 -- Frames and the lists that hold them.
+use mathlib.Core.Path.{_≡_}
 use mathlib.Core.List.{List, [], _∷_, _++_}
-use Prim.Native.Nat.{ℕ, zero, suc, _+_, _*_}
+use Prim.Native.Nat.{ℕ, zero, suc, _+_, _*_, _<_}
 use lib.ListN.{length, getD, drop}
 
 -- "Pixel (x,y) counts from 0, x to the right, y down." Width and height stand beside a frame.
 abbrev pub Frame : Type 0
 Frame = ℕ → ℕ → ℕ
+
+-- two frames with the same number at every pixel
+abbrev pub SameFrame : ℕ → ℕ → Frame → Frame → Type 0
+SameFrame w h f g = (x y : ℕ) → x < w → y < h → f x y ≡ g x y
 
 -- the frame of width w that a list holds, "rows from the top"
 unfoldable pub frameOf : ℕ → List ℕ → Frame

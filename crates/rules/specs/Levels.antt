@@ -1,9 +1,10 @@
 -- Pair alignment, level by level: candidates, first least, doubling. The order of the nine candidates and the exclusion rule are parameters.
 use mathlib.Core.Bool.{cond}
 use mathlib.Core.List.{List, [], _∷_, _++_, map}
-use Prim.Native.Nat.{ℕ, zero, suc, _/_}
+use Prim.Native.Nat.{ℕ, zero, suc, _/_, _≤_}
 use lib.Dec.{ltb}
-use lib.IntN.{ℤ, pos, negsuc, _+ℤ_}
+use lib.IntN.{ℤ, pos, negsuc, natAbs, _+ℤ_}
+use lib.ListN.{getD}
 use Rattle.rules.specs.declared.Offset.{Offset}
 use Rattle.rules.specs.Frames.{Frame}
 use Rattle.rules.specs.Greys.{halved}
@@ -18,6 +19,16 @@ still = record { dx = pos 0; dy = pos 0 }
 abbrev pub added : Offset → Offset → Offset
 added a b = record { dx = a .dx +ℤ b .dx; dy = a .dy +ℤ b .dy }
 
+-- at most n in size on each axis
+pub record Near (n : ℕ) (m : Offset) : Type 0 where
+  pub dx : natAbs (m .dx) ≤ n
+  pub dy : natAbs (m .dy) ≤ n
+
+-- every offset of a list
+abbrev pub Every : (Offset → Type 0) → List Offset → Type 0
+Every P [] = Unit {0}
+Every P (m ∷ ms) = P m × Every P ms
+
 -- "i from −1 to 1 outside, j from −1 to 1 inside"
 abbrev pub wardOrder : List Offset
 wardOrder =
@@ -28,16 +39,26 @@ wardOrder =
     step : ℤ → ℤ → Offset
     step i j = record { dx = i; dy = j }
 
+-- candidate k of the nine around a centre, in Ward's order
+abbrev pub candidateAt : Offset → ℕ → Offset
+candidateAt centre k = getD (map (added centre) wardOrder) k still
+
+-- its step on an axis, from quotient and remainder of its place by 3
+abbrev pub stepOf : ℕ → ℤ
+stepOf zero = negsuc 0
+stepOf (suc zero) = pos 0
+stepOf (suc (suc i)) = pos 1
+
 -- A rule for the exclusion bit of a grey value, from the level's thresholds (one for each percentile) and the pair's percentile.
-abbrev pub Exclusion : Type 0
-Exclusion = (ℕ → ℕ) → ℕ → ℕ → ℕ
+abbrev pub ExclusionRule : Type 0
+ExclusionRule = (ℕ → ℕ) → ℕ → ℕ → ℕ
 
 -- document 01's rule: by the tolerance T
-abbrev pub byTolerance : ℕ → Exclusion
+abbrev pub byTolerance : ℕ → ExclusionRule
 byTolerance tolerance thresholds percentile v = exclusionBit (thresholds percentile) tolerance v
 
 -- "Each level takes its threshold afresh": the two planes of a level's grey frame
-unfoldable pub planesBy : Exclusion → ℕ → ℕ → ℕ → Frame → Planes
+unfoldable pub planesBy : ExclusionRule → ℕ → ℕ → ℕ → Frame → Planes
 planesBy exclusion percentile w h f =
     record {
       threshold = bitsBy (thresholdBit (threshold w h percentile f)) f;
@@ -69,12 +90,12 @@ level order count centre coarser =
     }
 
 -- the difference count of two grey frames at a candidate, "both frames with the same P"
-unfoldable pub countAt : Exclusion → ℕ → ℕ → ℕ → Frame → Frame → Offset → ℕ
+unfoldable pub countAt : ExclusionRule → ℕ → ℕ → ℕ → Frame → Frame → Offset → ℕ
 countAt exclusion percentile w h a b m =
     difference w h (m .dx) (m .dy) (planesBy exclusion percentile w h a) (planesBy exclusion percentile w h b)
 
 -- "A level's answer rests on that of the next coarser one, doubled; below the coarsest it is (0,0)." s halvings, so s + 1 levels.
-unfoldable pub pair : List Offset → Exclusion → ℕ → ℕ → ℕ → ℕ → Frame → Frame → Aligned
+unfoldable pub pair : List Offset → ExclusionRule → ℕ → ℕ → ℕ → ℕ → Frame → Frame → Aligned
 pair order exclusion percentile zero w h a b = level order (countAt exclusion percentile w h a b) still []
 pair order exclusion percentile (suc s) w h a b =
     let coarse = pair order exclusion percentile s (w / 2) (h / 2) (halved a) (halved b) in

@@ -2,12 +2,14 @@
 pub mod Limits
 pub mod Sums
 pub mod Frames
+pub mod Buffers
 pub mod Greys
 pub mod Thresholds
 pub mod Planes
 pub mod Bitmaps
 pub mod Differences
 pub mod Refusals
+pub mod Accepted
 pub mod Answers
 pub mod Levels
 pub mod Series

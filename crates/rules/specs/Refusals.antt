@@ -64,11 +64,11 @@ badPercentiles n ps = not (eqb (length ps) (n - 1)) || someBadPercentile ps
 
 -- 9. "An input slice hasn't exactly the needed length"
 abbrev pub wrongLength : ℕ → ℕ → Bool
-wrongLength needed length = not (eqb length needed)
+wrongLength needed given = not (eqb given needed)
 
 -- 10. "An output slice is shorter than needed"
 abbrev pub short : ℕ → ℕ → Bool
-short needed length = ltb length needed
+short needed given = ltb given needed
 
 -- the lengths of a frame: a raster's bytes, a grey frame's bytes, a bitmap's words
 abbrev pub rasterLength : ℕ → ℕ → ℕ
@@ -144,6 +144,10 @@ differenceRefusal w h threshold1 exclusion1 threshold2 exclusion2 =
     2 when badSize w h
     orElse 9 when (wrongLength (bitmapLength w h) threshold1 || (wrongLength (bitmapLength w h) exclusion1
     || (wrongLength (bitmapLength w h) threshold2 || wrongLength (bitmapLength w h) exclusion2)))
+
+-- what refuses a size and a number of halvings, whatever is lent
+abbrev pub shapeRefusal : ℕ → ℕ → ℕ → ℕ
+shapeRefusal w h s = 2 when badSize w h orElse 3 when badHalvings s orElse 4 when tooSmall w h s
 
 unfoldable pub pairRefusal : ℕ → ℕ → ℕ → ℕ → ℕ → ℕ → ℕ → ℕ → ℕ → ℕ → ℕ
 pairRefusal w h s tolerance percentile first second counts grey words =

@@ -8,7 +8,7 @@ use lib.ListN.{getD, drop}
 use Rattle.rules.specs.Frames.{Frame}
 use Rattle.rules.specs.Greys.{greyFrame}
 use Rattle.rules.specs.declared.Offset.{Offset}
-use Rattle.rules.specs.Levels.{still, added, Exclusion, byTolerance, wardOrder, Aligned, pair}
+use Rattle.rules.specs.Levels.{still, added, ExclusionRule, byTolerance, wardOrder, Aligned, pair}
 
 -- "Its sizes are N, w and h; its settings are s, T, r and the percentiles."
 pub record Settings : Type 0 where
@@ -64,7 +64,7 @@ answerOf n reference pairs =
     record { offsets = offsetList n (frameOffset (λ k. pairs k .offset) reference); counts = countList (n - 1) pairs }
 
 -- the pixel-by-pixel answer for an order of the nine candidates and an exclusion rule
-unfoldable pub answerBy : List Offset → Exclusion → Settings → List ℕ → Answer
+unfoldable pub answerBy : List Offset → ExclusionRule → Settings → List ℕ → Answer
 answerBy order exclusion S rasters =
     answerOf (S .frames) (S .reference)
     (pairOf (λ p. pair order exclusion p (S .halvings) (S .w) (S .h)) (S .percentiles) (greyOf S rasters))

@@ -8,13 +8,14 @@ use lib.IntN.{ℤ}
 use lib.ListN.{length, take, drop, getD}
 use lib.Seq.{take-at}
 use Rattle.rules.specs.declared.Written.{Written}
-use Rattle.rules.specs.Answers.{written, lent}
+use Rattle.rules.specs.Answers.{written, bufferAfter}
 use Rattle.rules.specs.Levels.{wardOrder, byTolerance, Aligned, pair}
 use Rattle.rules.specs.Refusals.{seriesRefusal}
 use Rattle.rules.specs.Series.{Settings, greyOf, pairOf, frameOffset, answerOf, answerBy, seriesAnswer}
 use Rattle.rules.specs.Calls.{settings}
 use Rattle.rules.proofs.OffsetLaws.{length-offsets}
-use Rattle.rules.proofs.AlignmentLaws.{SeriesOk, series-ok}
+use Rattle.rules.specs.Accepted.{SeriesOk}
+use Rattle.rules.proofs.AlignmentLaws.{series-ok}
 use Rattle.reexposure.specs.Reexposure.{Bytes, Sound, Bounded, Alike}
 use Rattle.reexposure.proofs.Theorem.{demand3}
 use Rattle.align.proofs.AlignLaws.{counts-length}
@@ -41,14 +42,14 @@ counts-size S F =
     pairs = pairOf (λ p. pair wardOrder (byTolerance (S .tolerance)) p (S .halvings) (S .w) (S .h)) (S .percentiles) (greyOf S F)
 
 -- an accepted call's buffers begin with what it wrote
-written-part : {A : Type 0} (number n : ℕ) (out before after : List A) → number ≡ 0 → length out ≡ n → after ≡ lent number out before → take n after ≡ out
+written-part : {A : Type 0} (number n : ℕ) (out before after : List A) → number ≡ 0 → length out ≡ n → after ≡ bufferAfter number out before → take n after ≡ out
 written-part number n out before after z size e =
-    ap (take n) (e ∙ ap (λ (k : ℕ). lent k out before) z) ∙ take-at out (drop (length out) before) n size
+    ap (take n) (e ∙ ap (λ (k : ℕ). bufferAfter k out before) z) ∙ take-at out (drop (length out) before) n size
 
 -- the packed answer of an accepted call is the pixel-by-pixel one
 packed-is : (S : Settings) (F : List ℕ) (number : ℕ) (offsets offsets′ : List ℤ) (counts counts′ : List ℕ) → number ≡ 0
-    → offsets′ ≡ lent number (seriesAnswer S F .offsets) offsets
-    → counts′ ≡ lent number (seriesAnswer S F .counts) counts
+    → offsets′ ≡ bufferAfter number (seriesAnswer S F .offsets) offsets
+    → counts′ ≡ bufferAfter number (seriesAnswer S F .counts) counts
     → packedAnswer S offsets′ counts′ ≡ seriesAnswer S F
 packed-is S F number offsets offsets′ counts counts′ z a b =
     let p = written-part number (2 * S .frames) (seriesAnswer S F .offsets) offsets offsets′ z (offsets-size S F) a in
@@ -66,11 +67,11 @@ module _ (w h s tolerance n r : ℕ) (ps F F′ : List ℕ) (offsets1 offsets2 o
   second = seriesRefusal w h s tolerance n r ps (length F′) (length offsets2) (length counts2) grey′ words′
 
   pub demanded : (answer : Written) → grey′ ≡ grey → words′ ≡ words → Bytes F → Bytes F′
-      → out1 ≡ lent (seriesRefusal w h s tolerance n r ps (length F) (length offsets1) (length counts1) grey words) (seriesAnswer (settings w h s tolerance n r ps) F .offsets) offsets1
-      → made1 ≡ lent (seriesRefusal w h s tolerance n r ps (length F) (length offsets1) (length counts1) grey words) (seriesAnswer (settings w h s tolerance n r ps) F .counts) counts1
+      → out1 ≡ bufferAfter (seriesRefusal w h s tolerance n r ps (length F) (length offsets1) (length counts1) grey words) (seriesAnswer (settings w h s tolerance n r ps) F .offsets) offsets1
+      → made1 ≡ bufferAfter (seriesRefusal w h s tolerance n r ps (length F) (length offsets1) (length counts1) grey words) (seriesAnswer (settings w h s tolerance n r ps) F .counts) counts1
       → answer ≡ written (seriesRefusal w h s tolerance n r ps (length F′) (length offsets2) (length counts2) grey′ words′)
-      → out2 ≡ lent (seriesRefusal w h s tolerance n r ps (length F′) (length offsets2) (length counts2) grey′ words′) (seriesAnswer (settings w h s tolerance n r ps) F′ .offsets) offsets2
-      → made2 ≡ lent (seriesRefusal w h s tolerance n r ps (length F′) (length offsets2) (length counts2) grey′ words′) (seriesAnswer (settings w h s tolerance n r ps) F′ .counts) counts2
+      → out2 ≡ bufferAfter (seriesRefusal w h s tolerance n r ps (length F′) (length offsets2) (length counts2) grey′ words′) (seriesAnswer (settings w h s tolerance n r ps) F′ .offsets) offsets2
+      → made2 ≡ bufferAfter (seriesRefusal w h s tolerance n r ps (length F′) (length offsets2) (length counts2) grey′ words′) (seriesAnswer (settings w h s tolerance n r ps) F′ .counts) counts2
       → Given (settings w h s tolerance n r ps) F F′ (seriesRefusal w h s tolerance n r ps (length F) (length offsets1) (length counts1) grey words) offsets1 offsets2 counts1 counts2
       → Demanded (settings w h s tolerance n r ps) F′ answer (packedAnswer (settings w h s tolerance n r ps) out1 made1) (packedAnswer (settings w h s tolerance n r ps) out2 made2)
   unfolding S first second

@@ -15,18 +15,20 @@ use mir.Syntax.{w32}
 use mir.Val.{toZ, ofZ}
 use borrow.Author.Tests.{eq-eqb, ne-eqb}
 use Rattle.rules.specs.declared.Offset.{Offset}
-use Rattle.rules.specs.Frames.{frameOf, writtenOver}
+use Rattle.rules.specs.Frames.{frameOf, writtenOver, SameFrame}
 use Rattle.rules.specs.Greys.{greyFrame}
-use Rattle.rules.specs.Levels.{wardOrder, byTolerance, Aligned}
+use Rattle.rules.specs.Levels.{wardOrder, byTolerance, Aligned, Near}
 use Rattle.rules.specs.Refusals.{greyNeeded}
 use Rattle.rules.specs.Series.{greyOf, pairOf, countList, answerOf, answerBy, seriesAnswer}
 use Rattle.rules.specs.Calls.{settings}
 use Rattle.rules.proofs.SumLaws.{order}
-use Rattle.rules.proofs.FrameLaws.{RowAt, row-none, pixel-fits}
-use Rattle.rules.proofs.PairLaws.{SameFrame, pair-ext}
-use Rattle.rules.proofs.OffsetLaws.{Near, near-pair, near-ward, near-more}
+use Rattle.rules.specs.Buffers.{RowAt}
+use Rattle.rules.proofs.FrameLaws.{row-none, pixel-fits}
+use Rattle.rules.proofs.PairLaws.{pair-ext}
+use Rattle.rules.proofs.OffsetLaws.{near-pair, near-ward, near-more}
 use Rattle.rules.proofs.SignedLaws.{bits-are}
-use Rattle.rules.proofs.AlignmentLaws.{SeriesOk, level-pixels-at}
+use Rattle.rules.specs.Accepted.{SeriesOk}
+use Rattle.rules.proofs.AlignmentLaws.{level-pixels-at}
 use Rattle.frame.specs.Places.{greyAt}
 use Rattle.frame.proofs.PlaceLaws.{row-join}
 use Rattle.align.specs.Aligns.{Frames, Aligns, alignedIn}

@@ -6,15 +6,14 @@ use Prim.Native.Nat.{ℕ, _+_, _*_, _-_, _%_, _≤_, _<_}
 use lib.Dec.{eqb}
 use lib.IntN.{ℤ, pos}
 use lib.ListN.{length, getD, drop}
-use Rattle.rules.specs.Frames.{Frame, frameOf, writtenOver}
+use Rattle.rules.specs.Frames.{Frame, frameOf, writtenOver, SameFrame}
 use Rattle.rules.specs.Greys.{greyFrame}
 use Rattle.rules.specs.Bitmaps.{rowWords}
 use Rattle.rules.specs.Levels.{wardOrder, byTolerance, Aligned, pair}
 use Rattle.rules.specs.Refusals.{greyNeeded}
 use Rattle.rules.specs.Series.{countList}
-use Rattle.rules.proofs.FrameLaws.{RowAt}
-use Rattle.rules.proofs.PairLaws.{SameFrame}
-use Rattle.rules.proofs.AlignmentLaws.{ShapeOk}
+use Rattle.rules.specs.Buffers.{RowAt}
+use Rattle.rules.specs.Accepted.{ShapeOk}
 use Rattle.offsets.specs.Held.{slotOf, heldAt}
 use Rattle.offsets.proofs.SlotLaws.{Put}
 

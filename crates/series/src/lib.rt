@@ -8,7 +8,7 @@ use offsets::sum_about;
 use rules::Written;
 use runs::align_pairs;
 ghost use mathlib.Core.Path.{_≡_};
-ghost use Rattle.rules.specs.Answers.{written, lent};
+ghost use Rattle.rules.specs.Answers.{written, bufferAfter};
 ghost use Rattle.rules.specs.Calls.{seriesNumber, settings};
 ghost use Rattle.rules.specs.Series.{seriesAnswer};
 
@@ -28,8 +28,8 @@ pub fn series(
     words: &mut [u64],
 ) -> Written
     ensures answer { λ k. ⌜ k ≡ written (seriesNumber w h s tolerance n r (now (percentiles .entry)) (now (rasters .entry)) (now (offsets .entry)) (now (counts .entry)) (now (grey .entry)) (now (words .entry))) ⌝ }
-    ensures offsets { λ _. ⌜ now (offsets .exit) ≡ lent (seriesNumber w h s tolerance n r (now (percentiles .entry)) (now (rasters .entry)) (now (offsets .entry)) (now (counts .entry)) (now (grey .entry)) (now (words .entry))) (seriesAnswer (settings w h s tolerance n r (now (percentiles .entry))) (now (rasters .entry)) .offsets) (now (offsets .entry)) ⌝ }
-    ensures counts { λ _. ⌜ now (counts .exit) ≡ lent (seriesNumber w h s tolerance n r (now (percentiles .entry)) (now (rasters .entry)) (now (offsets .entry)) (now (counts .entry)) (now (grey .entry)) (now (words .entry))) (seriesAnswer (settings w h s tolerance n r (now (percentiles .entry))) (now (rasters .entry)) .counts) (now (counts .entry)) ⌝ }
+    ensures offsets { λ _. ⌜ now (offsets .exit) ≡ bufferAfter (seriesNumber w h s tolerance n r (now (percentiles .entry)) (now (rasters .entry)) (now (offsets .entry)) (now (counts .entry)) (now (grey .entry)) (now (words .entry))) (seriesAnswer (settings w h s tolerance n r (now (percentiles .entry))) (now (rasters .entry)) .offsets) (now (offsets .entry)) ⌝ }
+    ensures counts { λ _. ⌜ now (counts .exit) ≡ bufferAfter (seriesNumber w h s tolerance n r (now (percentiles .entry)) (now (rasters .entry)) (now (offsets .entry)) (now (counts .entry)) (now (grey .entry)) (now (words .entry))) (seriesAnswer (settings w h s tolerance n r (now (percentiles .entry))) (now (rasters .entry)) .counts) (now (counts .entry)) ⌝ }
     ensures memory { λ _. ⌜ ((seriesNumber w h s tolerance n r (now (percentiles .entry)) (now (rasters .entry)) (now (offsets .entry)) (now (counts .entry)) (now (grey .entry)) (now (words .entry)) ≡ 0 → ⊥) → (now (grey .exit) ≡ now (grey .entry)) × (now (words .exit) ≡ now (words .entry))) ⌝ }
 {
     let number = series_refusal(

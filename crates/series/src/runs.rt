@@ -6,7 +6,7 @@ use frame::conversion::convert;
 ghost use mathlib.Core.Path.{_≡_};
 ghost use Prim.Native.Nat.{_<_, _≤_};
 ghost use lib.ListN.{length, set};
-ghost use Rattle.rules.proofs.AlignmentLaws.{SeriesOk};
+ghost use Rattle.rules.specs.Accepted.{SeriesOk};
 ghost use Rattle.count.specs.Ones.{CountsOnes};
 ghost use Rattle.offsets.specs.Held.{slotOf};
 ghost use Rattle.series.specs.Runs.{placeOf, Stands, pairAt, pairsOf, Room, Ran, Paired};

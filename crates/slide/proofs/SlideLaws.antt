@@ -17,7 +17,8 @@ use Rattle.rules.specs.Frames.{Frame}
 use Rattle.rules.specs.Planes.{within, shifted}
 use Rattle.rules.specs.Bitmaps.{bit, bitAt, rowWords, word, wordOf}
 use Rattle.rules.proofs.SumLaws.{order}
-use Rattle.rules.proofs.FrameLaws.{RowAt, FrameAt, row-none, row-more, row-fits}
+use Rattle.rules.specs.Buffers.{RowAt, FrameAt}
+use Rattle.rules.proofs.FrameLaws.{row-none, row-more, row-fits}
 use Rattle.words.specs.Rows.{WordOf, rowBit, back, bias, biasWords, biasOf}
 use Rattle.words.proofs.BitLaws.{word-is, word-ext}
 use Rattle.words.proofs.MoveLaws.{gate-lt, gate-ge, row-bit, row-words-over, back-at, bitAt-row, moved-by}

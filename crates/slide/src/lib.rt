@@ -14,7 +14,7 @@ ghost use lib.ListN.{length, drop};
 ghost use Rattle.rules.specs.Limits.{maxSide, wordBits};
 ghost use Rattle.rules.specs.Planes.{shifted};
 ghost use Rattle.rules.specs.Bitmaps.{rowWords, bitAt, wordOf};
-ghost use Rattle.rules.proofs.FrameLaws.{RowAt, FrameAt};
+ghost use Rattle.rules.specs.Buffers.{RowAt, FrameAt};
 ghost use Rattle.count.specs.Rows.{Moves};
 ghost use Rattle.slide.specs.Slides.{slidRow, slidFrom, slidRows, Columns, Interiors};
 

@@ -5,7 +5,7 @@ use native.Mathlib.Nat.{le-refl}
 use native.Mathlib.Omega.{arith}
 use lib.ListN.{length}
 use Rattle.rules.specs.declared.Paired.{Paired}
-use Rattle.rules.proofs.RefusalLaws.{lent-refused}
+use Rattle.rules.proofs.RefusalLaws.{buffer-refused}
 use Rattle.rules.proofs.AlignmentLaws.{pair-ok, paired-refused, level-pixels-at}
 use Rattle.count.proofs.OnesLaws.{counts-ones}
 use Rattle.align.proofs.PairCallLaws.{converted, converted-kept, pair-offset, pair-counts, pair-frames}
@@ -19,7 +19,7 @@ pair-refusal-requires c κs = search needs
 returns : tie.Need-returns
 returns c =
     rw (← c .before .pair-refusal .ensures)
-    (paired-refused _ _ (c .if1 .taken), (lent-refused _ _ _ (c .if1 .taken), λ g. (refl, refl)))
+    (paired-refused _ _ (c .if1 .taken), (buffer-refused _ _ _ (c .if1 .taken), λ g. (refl, refl)))
 
 mul-area : tie.Need-mul-area
 mul-area c =

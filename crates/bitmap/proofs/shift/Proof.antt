@@ -6,7 +6,7 @@ use denote.Ref.{now}
 use Rattle.rules.specs.Frames.{writtenOver}
 use Rattle.rules.specs.Planes.{shifted}
 use Rattle.rules.specs.Bitmaps.{bitAt, packed}
-use Rattle.rules.proofs.RefusalLaws.{shift-ok, written-refused, lent-refused}
+use Rattle.rules.proofs.RefusalLaws.{shift-ok, written-refused, buffer-refused}
 use Rattle.bitmap.proofs.shift.Statement.{statement}
 use Rattle.bitmap.proofs.shift.Tie as tie
 
@@ -15,7 +15,7 @@ shift-refusal-requires c κs = search needs
 
 returns : tie.Need-returns
 returns c =
-    rw (← c .before .shift-refusal .ensures) (written-refused _ (c .if1 .taken), lent-refused _ _ _ (c .if1 .taken))
+    rw (← c .before .shift-refusal .ensures) (written-refused _ (c .if1 .taken), buffer-refused _ _ _ (c .if1 .taken))
 
 move-bitmap-requires : tie.Need-move-bitmap-requires
 move-bitmap-requires c κs =

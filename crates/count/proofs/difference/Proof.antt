@@ -8,7 +8,8 @@ use borrow.Author.Needs.{needs}
 use Rattle.rules.specs.Refusals.{differenceRefusal}
 use Rattle.rules.specs.Differences.{difference}
 use Rattle.rules.specs.Calls.{planesOf}
-use Rattle.rules.proofs.RefusalLaws.{DifferenceOk, difference-ok}
+use Rattle.rules.specs.Accepted.{DifferenceOk}
+use Rattle.rules.proofs.RefusalLaws.{difference-ok}
 use Rattle.count.proofs.OnesLaws.{counts-ones}
 use Rattle.count.proofs.AnswerLaws.{refused, accepted}
 use Rattle.count.proofs.difference.Statement.{statement}

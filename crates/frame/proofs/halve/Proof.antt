@@ -7,7 +7,8 @@ use borrow.Author.Needs.{needs}
 use Rattle.rules.specs.Frames.{frameOf}
 use Rattle.rules.specs.Greys.{halved}
 use Rattle.rules.proofs.FrameLaws.{frame-written}
-use Rattle.rules.proofs.RefusalLaws.{HalveOk, halve-ok, written-refused, lent-refused}
+use Rattle.rules.specs.Accepted.{HalveOk}
+use Rattle.rules.proofs.RefusalLaws.{halve-ok, written-refused, buffer-refused}
 use Rattle.frame.proofs.halve.Statement.{statement}
 use Rattle.frame.proofs.halve.Tie as tie
 
@@ -17,7 +18,7 @@ halve-refusal-requires c κs = search needs
 returns : tie.Need-returns
 returns c =
     rw (← c .before .halve-refusal .ensures)
-    (written-refused _ (c .if1 .taken), lent-refused _ _ _ (c .if1 .taken))
+    (written-refused _ (c .if1 .taken), buffer-refused _ _ _ (c .if1 .taken))
 
 -- what an accepted call knows of its sizes
 accepted : (c : tie.Else1)

@@ -5,7 +5,8 @@ use lib.ListN.{length}
 use borrow.Author.Needs.{needs}
 use Rattle.rules.specs.Greys.{greyFrame}
 use Rattle.rules.proofs.FrameLaws.{frame-written}
-use Rattle.rules.proofs.RefusalLaws.{GreyOk, grey-ok, written-refused, lent-refused}
+use Rattle.rules.specs.Accepted.{GreyOk}
+use Rattle.rules.proofs.RefusalLaws.{grey-ok, written-refused, buffer-refused}
 use Rattle.frame.specs.Places.{greyAt}
 use Rattle.frame.proofs.PlaceLaws.{flat-frame}
 use Rattle.frame.proofs.to_grey.Statement.{statement}
@@ -17,7 +18,7 @@ grey-refusal-requires c κs = search needs
 returns : tie.Need-returns
 returns c =
     rw (← c .before .grey-refusal .ensures)
-    (written-refused _ (c .if1 .taken), lent-refused _ _ _ (c .if1 .taken))
+    (written-refused _ (c .if1 .taken), buffer-refused _ _ _ (c .if1 .taken))
 
 -- what an accepted call knows of its sizes
 accepted : (c : tie.Else1)

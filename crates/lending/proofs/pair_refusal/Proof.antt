@@ -4,7 +4,8 @@ use Prim.Native.Nat.{ℕ}
 use borrow.Author.Tests.{lt-ltb, le-ltb, eq-eqb, ne-eqb}
 use Rattle.rules.specs.Refusals.{badPercentile, pairRefusal}
 use Rattle.rules.proofs.RefusalLaws.{told-yes, told-no}
-use Rattle.rules.proofs.AlignmentLaws.{settingsThen, settings-first, settings-pass, SettingsOk, settings-told}
+use Rattle.rules.specs.Accepted.{SettingsOk}
+use Rattle.rules.proofs.AlignmentLaws.{settingsThen, settings-first, settings-pass, settings-told}
 use native.Mathlib.Omega.{arith}
 use borrow.Author.Needs.{needs}
 use Rattle.lending.proofs.pair_refusal.Statement.{statement}

@@ -5,7 +5,8 @@ use native.Mathlib.Nat.{mul-le-mul}
 use borrow.Author.Tests.{lt-ltb, le-ltb, eq-eqb, ne-eqb}
 use Rattle.rules.specs.Refusals.{badPercentiles, seriesRefusal}
 use Rattle.rules.proofs.RefusalLaws.{told-yes, told-no}
-use Rattle.rules.proofs.AlignmentLaws.{settingsThen, settings-first, settings-pass, SettingsOk, settings-told, framesThen, frames-first, frames-pass, FramesOk, frames-told}
+use Rattle.rules.specs.Accepted.{SettingsOk, FramesOk}
+use Rattle.rules.proofs.AlignmentLaws.{settingsThen, settings-first, settings-pass, settings-told, framesThen, frames-first, frames-pass, frames-told}
 use native.Mathlib.Omega.{arith}
 use borrow.Author.Needs.{needs}
 use Rattle.lending.proofs.series_refusal.Statement.{statement}

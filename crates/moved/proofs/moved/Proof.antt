@@ -4,7 +4,7 @@ use lib.IntN.{ℤ}
 use lib.ListN.{length}
 use mir.Facts.{toZ-ofZ}
 use borrow.Author.Needs.{needs}
-use Rattle.rules.proofs.RefusalLaws.{written-refused, lent-refused}
+use Rattle.rules.proofs.RefusalLaws.{written-refused, buffer-refused}
 use Rattle.moved.specs.Spans.{Clipped, Sized}
 use Rattle.moved.proofs.SpanLaws.{moved-written, moved-ok}
 use Rattle.moved.proofs.moved.Statement.{statement}
@@ -16,7 +16,7 @@ moved-refusal-requires c κs = search needs
 returns : tie.Need-returns
 returns c =
     rw (← c .before .moved-refusal .ensures)
-    (written-refused _ (c .if1 .taken), lent-refused _ _ _ (c .if1 .taken))
+    (written-refused _ (c .if1 .taken), buffer-refused _ _ _ (c .if1 .taken))
 
 -- what an accepted call knows of its sizes
 accepted : (c : tie.Else1)

@@ -2,7 +2,7 @@
 use mathlib.Core.Path.{refl, sym, ap₂, _∙_}
 use Prim.Native.Nat.{ℕ, _<_}
 use lib.ListN.{getD}
-use Rattle.rules.proofs.RefusalLaws.{bitmaps-ok, written-refused, lent-refused}
+use Rattle.rules.proofs.RefusalLaws.{bitmaps-ok, written-refused, buffer-refused}
 use Rattle.pack.specs.Outside.{outsidePlane}
 use Rattle.pack.proofs.OutsideLaws.{threshold-plane, exclusion-plane, packed-plane}
 use native.Mathlib.Omega.{arith}
@@ -16,7 +16,7 @@ bitmaps-refusal-requires c κs = search needs
 returns : tie.Need-returns
 returns c =
     rw (← c .before .bitmaps-refusal .ensures)
-    (written-refused _ (c .if1 .taken), (lent-refused _ _ _ (c .if1 .taken), lent-refused _ _ _ (c .if1 .taken)))
+    (written-refused _ (c .if1 .taken), (buffer-refused _ _ _ (c .if1 .taken), buffer-refused _ _ _ (c .if1 .taken)))
 
 low-end-requires : tie.Need-low-end-requires
 low-end-requires c κs = search needs

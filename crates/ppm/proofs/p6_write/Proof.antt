@@ -1,7 +1,7 @@
 -- A refused call answers its number and touches nothing; an accepted one puts the header, and the raster after it.
 use mathlib.Core.Path.{sym, ap, _∙_}
 use lib.ListN.{length}
-use Rattle.rules.proofs.RefusalLaws.{lent-refused}
+use Rattle.rules.proofs.RefusalLaws.{buffer-refused}
 use Rattle.text.proofs.PutLaws.{put-length, put-written}
 use Rattle.ppm.specs.declared.Stored.{Stored}
 use Rattle.ppm.specs.P6.{header}
@@ -17,7 +17,7 @@ write-refusal-requires c κs = search needs
 returns : tie.Need-returns
 returns c =
     rw (← c .before .write-refusal .ensures)
-    (stored-refused _ _ (c .if1 .taken), lent-refused _ _ _ (c .if1 .taken))
+    (stored-refused _ _ (c .if1 .taken), buffer-refused _ _ _ (c .if1 .taken))
 
 -- what an accepted call knows of its sizes
 accepted : (c : tie.Else1)

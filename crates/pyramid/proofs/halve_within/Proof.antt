@@ -6,7 +6,8 @@ use lib.ListN.{drop}
 use borrow.Author.Needs.{needs}
 use Rattle.rules.specs.Frames.{frameOf}
 use Rattle.rules.specs.Greys.{halved}
-use Rattle.rules.proofs.FrameLaws.{FrameAt, frame-none, row-fits}
+use Rattle.rules.specs.Buffers.{FrameAt}
+use Rattle.rules.proofs.FrameLaws.{frame-none, row-fits}
 use Rattle.frame.proofs.PlaceLaws.{rows-fit}
 use Rattle.pyramid.proofs.WithinLaws.{half-within}
 use Rattle.pyramid.proofs.halve_within.Statement.{statement}

@@ -3,8 +3,9 @@ use mathlib.Core.Path.{refl, sym, _∙_}
 use native.Mathlib.Omega.{arith}
 use lib.ListN.{length}
 use borrow.Author.Needs.{needs}
-use Rattle.rules.proofs.RefusalLaws.{written-refused, lent-refused}
-use Rattle.rules.proofs.AlignmentLaws.{SeriesOk, series-ok}
+use Rattle.rules.proofs.RefusalLaws.{written-refused, buffer-refused}
+use Rattle.rules.specs.Accepted.{SeriesOk}
+use Rattle.rules.proofs.AlignmentLaws.{series-ok}
 use Rattle.series.proofs.RunLaws.{pairs-small, answer-offsets, answer-counts}
 use Rattle.series.proofs.series.Statement.{statement}
 use Rattle.series.proofs.series.Tie as tie
@@ -15,7 +16,7 @@ series-refusal-requires c κs = search needs
 returns : tie.Need-returns
 returns c =
     rw (← c .before .series-refusal .ensures)
-    (written-refused _ (c .if1 .taken), (lent-refused _ _ _ (c .if1 .taken), (lent-refused _ _ _ (c .if1 .taken), λ f. (refl, refl))))
+    (written-refused _ (c .if1 .taken), (buffer-refused _ _ _ (c .if1 .taken), (buffer-refused _ _ _ (c .if1 .taken), λ f. (refl, refl))))
 
 -- what an accepted call knows of its sizes
 accepted : (c : tie.Else1)

@@ -3,7 +3,8 @@ use mathlib.Core.Path.{_≡_, refl}
 use Prim.Native.Nat.{_+_, _*_, _-_, _/_, _≤_}
 use native.Mathlib.Omega.{arith}
 use borrow.Author.Needs.{needs}
-use Rattle.rules.proofs.FrameLaws.{RowAt, row-fits}
+use Rattle.rules.specs.Buffers.{RowAt}
+use Rattle.rules.proofs.FrameLaws.{row-fits}
 use Rattle.count.specs.Rows.{Interior}
 use Rattle.slide.specs.Slides.{slidFrom}
 use Rattle.slide.proofs.SlideLaws.{part-none, part-more, interior-slid, long-words, run-inside}

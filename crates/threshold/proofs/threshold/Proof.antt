@@ -6,7 +6,8 @@ use borrow.Author.Needs.{needs}
 use lib.ListN.{length}
 use Rattle.rules.specs.Refusals.{thresholdRefusal}
 use Rattle.rules.specs.declared.Thresholded.{Thresholded}
-use Rattle.rules.proofs.RefusalLaws.{ThresholdOk, threshold-ok, thresholded-refused}
+use Rattle.rules.specs.Accepted.{ThresholdOk}
+use Rattle.rules.proofs.RefusalLaws.{threshold-ok, thresholded-refused}
 use Rattle.threshold.proofs.FlatLaws.{threshold-flat}
 use Rattle.threshold.proofs.threshold.Statement.{statement}
 use Rattle.threshold.proofs.threshold.Tie as tie

@@ -4,7 +4,8 @@ use borrow.Author.Needs.{needs}
 use mathlib.Core.Path.{_≡_, refl}
 use Prim.Native.Nat.{_≤_, _-_}
 use denote.Ref.{now}
-use Rattle.rules.proofs.FrameLaws.{RowAt, row-none, row-more}
+use Rattle.rules.specs.Buffers.{RowAt}
+use Rattle.rules.proofs.FrameLaws.{row-none, row-more}
 use Rattle.bitmap.specs.Moves.{blank}
 use Rattle.bitmap.proofs.moves.clear_row.Statement.{statement}
 use Rattle.bitmap.proofs.moves.clear_row.Tie as tie

@@ -8,7 +8,7 @@ use lib.ListN.{length}
 use mir.Facts.{toZ-ofZ}
 use denote.Ref.{now}
 use Rattle.rules.specs.Bitmaps.{rowWords}
-use Rattle.rules.proofs.RefusalLaws.{ShiftOk}
+use Rattle.rules.specs.Accepted.{ShiftOk}
 use Rattle.words.specs.Rows.{biasOf}
 use Rattle.bitmap.specs.Moves.{Sized}
 use Rattle.bitmap.proofs.ShiftLaws.{shifted-written}

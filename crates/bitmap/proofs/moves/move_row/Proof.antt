@@ -4,7 +4,8 @@ use borrow.Author.Needs.{needs}
 use mathlib.Core.Path.{_≡_}
 use Prim.Native.Nat.{_≤_, _<_, _-_, _*_}
 use denote.Ref.{now}
-use Rattle.rules.proofs.FrameLaws.{RowAt, row-none, row-more}
+use Rattle.rules.specs.Buffers.{RowAt}
+use Rattle.rules.proofs.FrameLaws.{row-none, row-more}
 use Rattle.words.proofs.MoveLaws.{row-words-under, row-words-max}
 use Rattle.bitmap.specs.Moves.{movedWord}
 use Rattle.bitmap.proofs.ShiftLaws.{moved-kept}

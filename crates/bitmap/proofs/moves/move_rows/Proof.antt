@@ -5,7 +5,8 @@ use native.Mathlib.Nat.{zero-add}
 use mathlib.Core.Path.{_≡_}
 use Prim.Native.Nat.{_≤_, _-_, _*_}
 use denote.Ref.{now}
-use Rattle.rules.proofs.FrameLaws.{FrameAt, frame-none, frame-more}
+use Rattle.rules.specs.Buffers.{FrameAt}
+use Rattle.rules.proofs.FrameLaws.{frame-none, frame-more}
 use Rattle.bitmap.specs.Moves.{movedRows}
 use Rattle.bitmap.proofs.moves.move_rows.Statement.{statement}
 use Rattle.bitmap.proofs.moves.move_rows.Tie as tie

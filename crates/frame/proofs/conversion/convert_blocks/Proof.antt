@@ -3,7 +3,8 @@ use mathlib.Core.Path.{_≡_}
 use Prim.Native.Nat.{_*_, _≤_, _-_}
 use native.Mathlib.Omega.{arith}
 use borrow.Author.Needs.{needs}
-use Rattle.rules.proofs.FrameLaws.{RowAt, row-none}
+use Rattle.rules.specs.Buffers.{RowAt}
+use Rattle.rules.proofs.FrameLaws.{row-none}
 use Rattle.frame.specs.Places.{greyAt}
 use Rattle.frame.proofs.ColourLaws.{block-grey, grey-more}
 use Rattle.frame.proofs.conversion.convert_blocks.Statement.{statement}

@@ -3,7 +3,8 @@ use mathlib.Core.Path.{_≡_}
 use Prim.Native.Nat.{_*_, _≤_, _-_}
 use native.Mathlib.Omega.{arith}
 use borrow.Author.Needs.{needs}
-use Rattle.rules.proofs.FrameLaws.{RowAt, row-none}
+use Rattle.rules.specs.Buffers.{RowAt}
+use Rattle.rules.proofs.FrameLaws.{row-none}
 use Rattle.frame.specs.Places.{halfAt}
 use Rattle.frame.proofs.PlaceLaws.{even-half, block-more}
 use Rattle.frame.proofs.halving.halve_blocks.Statement.{statement}

@@ -6,7 +6,8 @@ use native.Mathlib.Omega.{arith}
 use borrow.Author.Needs.{needs}
 use Rattle.rules.specs.Frames.{frameOf}
 use Rattle.rules.specs.Greys.{halved}
-use Rattle.rules.proofs.FrameLaws.{FrameAt, frame-none, row-fits}
+use Rattle.rules.specs.Buffers.{FrameAt}
+use Rattle.rules.proofs.FrameLaws.{frame-none, row-fits}
 use Rattle.frame.proofs.PlaceLaws.{rows-fit, half-more}
 use Rattle.frame.proofs.halving.halve_frame.Statement.{statement}
 use Rattle.frame.proofs.halving.halve_frame.Tie as tie

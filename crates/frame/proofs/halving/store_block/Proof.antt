@@ -4,7 +4,8 @@ use Prim.Native.Nat.{_*_, _≤_, _-_}
 use native.Mathlib.Omega.{arith}
 use lib.ListN.{getD}
 use borrow.Author.Needs.{needs}
-use Rattle.rules.proofs.FrameLaws.{RowAt, row-none, row-more}
+use Rattle.rules.specs.Buffers.{RowAt}
+use Rattle.rules.proofs.FrameLaws.{row-none, row-more}
 use Rattle.frame.specs.Places.{evenAt}
 use Rattle.frame.proofs.halving.store_block.Statement.{statement}
 use Rattle.frame.proofs.halving.store_block.Tie as tie

@@ -4,8 +4,9 @@ use Prim.Native.Nat.{_+_, _*_, _-_, _≤_, _<_}
 use lib.IntN.{ℤ}
 use lib.ListN.{length}
 use Rattle.rules.specs.Bitmaps.{rowWords}
-use Rattle.rules.proofs.FrameLaws.{RowAt, row-none}
-use Rattle.rules.proofs.LevelLaws.{candidateAt}
+use Rattle.rules.specs.Buffers.{RowAt}
+use Rattle.rules.proofs.FrameLaws.{row-none}
+use Rattle.rules.specs.Levels.{candidateAt}
 use Rattle.frame.proofs.PlaceLaws.{row-join}
 use Rattle.level.specs.Places.{KeptTo, SlidAt, wordsCount}
 use Rattle.level.specs.Choices.{nineOf, columnOf}

@@ -2,8 +2,9 @@
 use mathlib.Core.Path.{_≡_, ap, _∙_}
 use Prim.Native.Nat.{_+_, _*_, _-_, _≤_}
 use Rattle.rules.specs.declared.Offset.{Offset}
-use Rattle.rules.proofs.FrameLaws.{RowAt, row-none, row-more}
-use Rattle.rules.proofs.LevelLaws.{candidateAt}
+use Rattle.rules.specs.Buffers.{RowAt}
+use Rattle.rules.proofs.FrameLaws.{row-none, row-more}
+use Rattle.rules.specs.Levels.{candidateAt}
 use Rattle.level.specs.Places.{wordsCount}
 use Rattle.level.specs.Choices.{columnOf}
 use Rattle.level.proofs.CountLaws.{candidate-near, column-dx}

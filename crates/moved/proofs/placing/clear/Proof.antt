@@ -3,7 +3,8 @@ use mathlib.Core.Path.{_≡_, refl}
 use Prim.Native.Nat.{_≤_, _-_}
 use native.Mathlib.Omega.{arith}
 use borrow.Author.Needs.{needs}
-use Rattle.rules.proofs.FrameLaws.{RowAt, row-none, row-more}
+use Rattle.rules.specs.Buffers.{RowAt}
+use Rattle.rules.proofs.FrameLaws.{row-none, row-more}
 use Rattle.moved.specs.Spans.{zeros}
 use Rattle.moved.proofs.placing.clear.Statement.{statement}
 use Rattle.moved.proofs.placing.clear.Tie as tie

@@ -4,7 +4,8 @@ use Prim.Native.Nat.{_*_, _-_, _≤_}
 use native.Mathlib.Nat.{zero-add}
 use native.Mathlib.Omega.{arith}
 use borrow.Author.Needs.{needs}
-use Rattle.rules.proofs.FrameLaws.{FrameAt, frame-none, frame-more}
+use Rattle.rules.specs.Buffers.{FrameAt}
+use Rattle.rules.proofs.FrameLaws.{frame-none, frame-more}
 use Rattle.moved.specs.Spans.{placedByte}
 use Rattle.moved.proofs.placing.place_rows.Statement.{statement}
 use Rattle.moved.proofs.placing.place_rows.Tie as tie

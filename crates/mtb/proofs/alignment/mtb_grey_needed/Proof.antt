@@ -3,8 +3,8 @@ use mathlib.Core.Path.{sym, ap, _∙_}
 use Prim.Native.Nat.{ℕ, _*_}
 use native.Mathlib.Omega.{arith}
 use borrow.Author.Needs.{needs}
-use Rattle.rules.proofs.AlignmentLaws.{level-pixels-fit}
-use Rattle.mtb.proofs.NeededLaws.{ShapeOk, shape-ok}
+use Rattle.rules.proofs.AlignmentLaws.{shape-ok, level-pixels-fit}
+use Rattle.rules.specs.Accepted.{ShapeOk}
 use Rattle.mtb.proofs.ToldLaws.{told-accepted, told-refused}
 use Rattle.mtb.proofs.alignment.mtb_grey_needed.Statement.{statement}
 use Rattle.mtb.proofs.alignment.mtb_grey_needed.Tie as tie

@@ -2,7 +2,8 @@
 use mathlib.Core.Path.{_≡_}
 use Prim.Native.Nat.{_+_, _*_, _-_, _≤_, _<_}
 use Rattle.rules.specs.Bitmaps.{rowWords, wordOf}
-use Rattle.rules.proofs.FrameLaws.{FrameAt, frame-none, row-fits}
+use Rattle.rules.specs.Buffers.{FrameAt}
+use Rattle.rules.proofs.FrameLaws.{frame-none, row-fits}
 use Rattle.pack.specs.Outside.{outsidePlane}
 use Rattle.pack.proofs.OutsideLaws.{frame-row, row-place}
 use native.Mathlib.Omega.{arith}

@@ -2,7 +2,8 @@
 use mathlib.Core.Path.{_≡_}
 use Prim.Native.Nat.{_+_, _-_, _/_, _%_, _≤_}
 use Rattle.rules.specs.Bitmaps.{rowWords}
-use Rattle.rules.proofs.FrameLaws.{RowAt, row-none}
+use Rattle.rules.specs.Buffers.{RowAt}
+use Rattle.rules.proofs.FrameLaws.{row-none}
 use Rattle.pack.specs.Outside.{columnsWord}
 use Rattle.pack.proofs.OutsideLaws.{row-words, columns-word}
 use Rattle.pack.proofs.GatherLaws.{weights-held}

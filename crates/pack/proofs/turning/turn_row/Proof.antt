@@ -1,7 +1,8 @@
 -- The loop's invariant: the first k words are turned, and nothing else has changed.
 use mathlib.Core.Path.{_≡_}
 use Prim.Native.Nat.{_-_, _≤_}
-use Rattle.rules.proofs.FrameLaws.{RowAt, row-none}
+use Rattle.rules.specs.Buffers.{RowAt}
+use Rattle.rules.proofs.FrameLaws.{row-none}
 use Rattle.pack.specs.Gathers.{turnedAt}
 use Rattle.pack.proofs.OutsideLaws.{turn-word}
 use native.Mathlib.Omega.{arith}

@@ -2,7 +2,8 @@
 use mathlib.Core.Path.{_≡_, sym, _∙_}
 use borrow.Author.Tests.{eq-eqb, ne-eqb}
 use Rattle.rules.specs.Refusals.{badSize}
-use Rattle.rules.proofs.RefusalLaws.{SizeOk, told-yes, told-no, size-told}
+use Rattle.rules.specs.Accepted.{SizeOk}
+use Rattle.rules.proofs.RefusalLaws.{told-yes, told-no, size-told}
 use Rattle.ppm.specs.declared.Header.{Header}
 use Rattle.ppm.specs.P6.{headerOf, headerRefusal, p6Refusal}
 use Rattle.ppm.proofs.HeaderLaws.{good-within}

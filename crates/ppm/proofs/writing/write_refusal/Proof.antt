@@ -4,7 +4,8 @@ use lib.ListN.{length}
 use borrow.Author.Tests.{lt-ltb, le-ltb, eq-eqb, ne-eqb}
 use Rattle.text.proofs.DigitLaws.{digits-at-most-ten}
 use Rattle.rules.specs.Refusals.{badSize}
-use Rattle.rules.proofs.RefusalLaws.{SizeOk, told-yes, told-no, size-told}
+use Rattle.rules.specs.Accepted.{SizeOk}
+use Rattle.rules.proofs.RefusalLaws.{told-yes, told-no, size-told}
 use Rattle.ppm.specs.P6.{header, writeRefusal}
 use Rattle.ppm.proofs.WriteLaws.{length-header}
 use native.Mathlib.Omega.{arith}

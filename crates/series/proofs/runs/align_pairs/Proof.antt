@@ -4,7 +4,8 @@ use mathlib.Core.Path.{_≡_, refl, _∙_}
 use Prim.Native.Nat.{_+_, _-_, _≤_, _<_}
 use lib.ListN.{length}
 use borrow.Author.Needs.{needs}
-use Rattle.rules.proofs.AlignmentLaws.{SeriesOk, level-pixels-at}
+use Rattle.rules.specs.Accepted.{SeriesOk}
+use Rattle.rules.proofs.AlignmentLaws.{level-pixels-at}
 use Rattle.count.proofs.OnesLaws.{counts-ones}
 use Rattle.series.specs.Runs.{pairsOf, Run}
 use Rattle.series.proofs.RunLaws.{whole-room, pair-sizes, room-at, room-kept, run-none, first-stands-at, run-more, run-all}

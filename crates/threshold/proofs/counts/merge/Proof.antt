@@ -3,7 +3,8 @@ use mathlib.Core.Path.{_≡_, sym, ap, _∙_}
 use Prim.Native.Nat.{ℕ, _-_, _≤_}
 use native.Mathlib.Nat.{zero-add}
 use lib.ListN.{getD}
-use Rattle.rules.proofs.FrameLaws.{RowAt, row-none, row-more}
+use Rattle.rules.specs.Buffers.{RowAt}
+use Rattle.rules.proofs.FrameLaws.{row-none, row-more}
 use Rattle.threshold.specs.Flat.{maxPixels}
 use Rattle.threshold.specs.Tables.{four}
 use native.Mathlib.Omega.{arith}

@@ -1,0 +1,98 @@
+-- What an accepted call knows of its sizes, settings and lengths: the cores require these.
+use mathlib.Core.Path.{_≡_}
+use mathlib.Core.List.{List}
+use Prim.Native.Nat.{ℕ, _+_, _*_, _-_, _/_, _^_, _≤_, _<_}
+use lib.ListN.{length, getD}
+use Rattle.rules.specs.Bitmaps.{rowWords}
+use Rattle.rules.specs.Refusals.{greyNeeded}
+
+-- sizes within their limits
+pub record SizeOk (w h : ℕ) : Type 0 where
+  pub wide : 0 < w
+  pub width : w ≤ 4096
+  pub high : 0 < h
+  pub height : h ≤ 4096
+  pub area : w * h ≤ 16777216
+  pub rowOfWords : rowWords w ≤ 64
+  pub bitmap : rowWords w * h ≤ 262144
+
+pub record GreyOk (w h raster grey : ℕ) : Type 0 where
+  pub size : SizeOk w h
+  pub exact : raster ≡ 3 * (w * h)
+  pub room : w * h ≤ grey
+
+pub record HalveOk (w h grey out : ℕ) : Type 0 where
+  pub size : SizeOk w h
+  pub wide : 2 ≤ w
+  pub high : 2 ≤ h
+  pub exact : grey ≡ w * h
+  pub room : w / 2 * (h / 2) ≤ out
+
+pub record ThresholdOk (w h percentile grey : ℕ) : Type 0 where
+  pub size : SizeOk w h
+  pub least : 1 ≤ percentile
+  pub most : percentile ≤ 99
+  pub exact : grey ≡ w * h
+
+pub record BitmapsOk (w h tolerance grey thresholds exclusions : ℕ) : Type 0 where
+  pub size : SizeOk w h
+  pub most : tolerance ≤ 64
+  pub exact : grey ≡ w * h
+  pub room1 : rowWords w * h ≤ thresholds
+  pub room2 : rowWords w * h ≤ exclusions
+
+pub record ShiftOk (w h bitmap out : ℕ) : Type 0 where
+  pub size : SizeOk w h
+  pub exact : bitmap ≡ rowWords w * h
+  pub room : rowWords w * h ≤ out
+
+pub record TotalOk (w h bitmap : ℕ) : Type 0 where
+  pub size : SizeOk w h
+  pub exact : bitmap ≡ rowWords w * h
+
+pub record DifferenceOk (w h threshold1 exclusion1 threshold2 exclusion2 : ℕ) : Type 0 where
+  pub size : SizeOk w h
+  pub exact1 : threshold1 ≡ rowWords w * h
+  pub exact2 : exclusion1 ≡ rowWords w * h
+  pub exact3 : threshold2 ≡ rowWords w * h
+  pub exact4 : exclusion2 ≡ rowWords w * h
+
+-- "A pair has s halvings, 0 to 8": the smallest level still has 4 pixels each way.
+pub record ShapeOk (w h s : ℕ) : Type 0 where
+  pub size : SizeOk w h
+  pub halvings : s ≤ 8
+  pub wide : 2 ^ (s + 2) ≤ w
+  pub high : 2 ^ (s + 2) ≤ h
+
+pub record SettingsOk (w h s tolerance : ℕ) : Type 0 where
+  pub shape : ShapeOk w h s
+  pub limit : tolerance ≤ 64
+
+pub record PairOk (w h s tolerance percentile first second counts grey words : ℕ) : Type 0 where
+  pub shape : ShapeOk w h s
+  pub limit : tolerance ≤ 64
+  pub least : 1 ≤ percentile
+  pub most : percentile ≤ 99
+  pub exact1 : first ≡ 3 * (w * h)
+  pub exact2 : second ≡ 3 * (w * h)
+  pub room : 9 * (s + 1) ≤ counts
+  pub greys : greyNeeded s w h ≤ grey
+  pub bitmaps : 6 * (rowWords w * h) ≤ words
+
+pub record FramesOk (n r : ℕ) : Type 0 where
+  pub least : 0 < n
+  pub most : n ≤ 16
+  pub reference : r < n
+
+pub record SeriesOk (w h s tolerance n r : ℕ) (ps : List ℕ) (rasters offsets counts grey words : ℕ) : Type 0 where
+  pub shape : ShapeOk w h s
+  pub limit : tolerance ≤ 64
+  pub frames : (0 < n) × (n ≤ 16)
+  pub reference : r < n
+  pub percentiles : length ps ≡ n - 1
+  pub percentile : (k : ℕ) → k < n - 1 → (1 ≤ getD ps k 0) × (getD ps k 0 ≤ 99)
+  pub exact : rasters ≡ n * (3 * (w * h))
+  pub room1 : 2 * n ≤ offsets
+  pub room2 : 9 * (s + 1) * (n - 1) ≤ counts
+  pub greys : greyNeeded s w h ≤ grey
+  pub bitmaps : 6 * (rowWords w * h) ≤ words
