@@ -1,37 +1,36 @@
 -- How the least of a list's first numbers goes on with one number more; and the step of a place.
 use mathlib.Core.Path.{_≡_, refl, ap, _∙_}
 use mathlib.Core.Logic.{⊎-elim}
-use mathlib.Core.List.{List}
 use Prim.Native.Nat.{ℕ, zero, suc, _+_, _≤_, _<_}
 use native.Mathlib.Nat.{le-refl}
 use native.Mathlib.Omega.{arith}
 use lib.IntN.{ℤ, pos, natAbs, _+ℤ_}
-use lib.ListN.{getD}
 use mir.Syntax.{w32}
 use mir.Val.{SFits, toZ, ofZ}
+use Rattle.rules.specs.Limits.{maxCentre}
 use Rattle.rules.proofs.SumLaws.{order}
 use Rattle.rules.specs.Levels.{stepOf}
 use Rattle.rules.proofs.SignedLaws.{sum-is, sum-bits-fit}
 use Rattle.candidates.specs.Leading.{Leading}
 
-pub leading-one : (l : List ℕ) (at : ℕ) → Leading l at 1 0
-leading-one l at = record {
+pub leading-one : (row : ℕ → ℕ) → Leading row 1 0
+leading-one row = record {
   inside = omega arith;
-  least = λ j k. let e : j ≡ 0 = omega arith in rw e (le-refl (getD l (at + 0) 0));
+  least = λ j k. let e : j ≡ 0 = omega arith in rw e (le-refl (row 0));
   first = λ j k. absurd (omega arith);
 }
 
 -- the next number is less than all before it
-pub leading-new : (l : List ℕ) (at k best : ℕ) → Leading l at k best → getD l (at + k) 0 < getD l (at + best) 0 → Leading l at (k + 1) k
-leading-new l at k best p less = record {
+pub leading-new : (row : ℕ → ℕ) (k best : ℕ) → Leading row k best → row k < row best → Leading row (k + 1) k
+leading-new row k best p less = record {
   inside = omega arith;
-  least = λ j m. ⊎-elim (λ (n : j < k). let e = p .least j n in omega arith) (λ (n : k ≤ j). let e : j ≡ k = omega arith in rw e (le-refl (getD l (at + k) 0))) (order j k);
+  least = λ j m. ⊎-elim (λ (n : j < k). let e = p .least j n in omega arith) (λ (n : k ≤ j). let e : j ≡ k = omega arith in rw e (le-refl (row k))) (order j k);
   first = λ j m. let e = p .least j m in omega arith;
 }
 
 -- the next number is not less
-pub leading-old : (l : List ℕ) (at k best : ℕ) → Leading l at k best → getD l (at + best) 0 ≤ getD l (at + k) 0 → Leading l at (k + 1) best
-leading-old l at k best p more = record {
+pub leading-old : (row : ℕ → ℕ) (k best : ℕ) → Leading row k best → row best ≤ row k → Leading row (k + 1) best
+leading-old row k best p more = record {
   inside = let e = p .inside in omega arith;
   least = λ j m. ⊎-elim (p .least j) (λ (n : k ≤ j). let e : j ≡ k = omega arith in rw e more) (order j k);
   first = p .first;
@@ -49,7 +48,7 @@ step-near (suc zero) = omega arith
 step-near (suc (suc i)) = omega arith
 
 -- A coordinate of a candidate, from the centre's and the machine's step.
-module _ (a z : ℤ) (i : ℕ) (near : natAbs a ≤ 1000000) (e : z ≡ stepOf i) where
+module _ (a z : ℤ) (i : ℕ) (near : natAbs a ≤ maxCentre) (e : z ≡ stepOf i) where
   small : natAbs z ≤ 2000000
   small = rw e (let s = step-near i in omega arith)
 

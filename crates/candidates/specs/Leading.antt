@@ -1,9 +1,14 @@
--- Of the first k numbers from place `at` on, the one at `best` is least, and every one before it is greater.
+-- Counts by rank, and what the search for the first least keeps.
 use mathlib.Core.List.{List}
 use Prim.Native.Nat.{ℕ, _+_, _≤_, _<_}
 use lib.ListN.{getD}
 
-pub record Leading (l : List ℕ) (at k best : ℕ) : Type 0 where
+-- the count of the candidate of rank j, where the counts stand from place `at` on in Ward's order
+abbrev pub countsBy : List ℕ → ℕ → List ℕ → ℕ → ℕ
+countsBy counts at places j = getD counts (at + getD places j 0) 0
+
+-- of the first k numbers of a row, the one at `best` is least, and every one before it is greater
+pub record Leading (row : ℕ → ℕ) (k best : ℕ) : Type 0 where
   pub inside : best < k
-  pub least : (j : ℕ) → j < k → getD l (at + best) 0 ≤ getD l (at + j) 0
-  pub first : (j : ℕ) → j < best → getD l (at + best) 0 < getD l (at + j) 0
+  pub least : (j : ℕ) → j < k → row best ≤ row j
+  pub first : (j : ℕ) → j < best → row best < row j

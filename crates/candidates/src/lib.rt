@@ -1,11 +1,15 @@
-// The nine candidates around a centre, in Ward's order, and the choice among their counts.
+// The nine candidates around a centre, and the choice among their counts in any order of the nine.
 
 use rules::Offset;
 ghost use mathlib.Core.Path.{_≡_};
 ghost use Prim.Native.Nat.{_+_, _<_, _≤_};
 ghost use lib.ListN.{length};
-ghost use Rattle.rules.specs.Levels.{candidateAt, stepOf, Near};
-ghost use Rattle.candidates.specs.Leading.{Leading};
+ghost use Rattle.rules.specs.Limits.{maxCentre};
+ghost use Rattle.rules.specs.Levels.{Arrangement, candidateAt, stepOf, Near};
+ghost use Rattle.candidates.specs.Leading.{countsBy, Leading};
+
+// Ward's order, by the places of the candidates in it.
+pub const WARD: [usize; 9] = [0, 1, 2, 3, 4, 5, 6, 7, 8];
 
 // A step on an axis: -1, 0 or 1.
 fn step(i: usize) -> i32
@@ -23,7 +27,7 @@ fn step(i: usize) -> i32
 // Candidate k of the nine.
 pub fn candidate(centre: Offset, k: usize) -> Offset
     requires { ⌜ k < 9 ⌝ }
-    requires { ⌜ Near 1000000 centre ⌝ }
+    requires { ⌜ Near maxCentre centre ⌝ }
     ensures { λ r. ⌜ r ≡ candidateAt centre k ⌝ }
 {
     let i = step(k / 3);
@@ -34,15 +38,17 @@ pub fn candidate(centre: Offset, k: usize) -> Offset
     }
 }
 
-// The place of the first least of nine counts, which stand from place `at` on.
-pub fn first_least(counts: &[u32], at: usize) -> usize
-    requires { ⌜ at + 9 ≤ length (now counts) ⌝ }
-    ensures { λ r. ⌜ Leading (now (counts .entry)) at 9 r ⌝ }
+// The rank of the first least of nine counts, which stand from place `at` on in Ward's order. The
+// candidates are ranked by their places in it.
+pub fn first_least(counts: &[u32], at: usize, order: &[usize; 9]) -> usize
+    requires nine { ⌜ at + 9 ≤ length (now counts) ⌝ }
+    requires order { ⌜ Arrangement (now order) ⌝ }
+    ensures { λ r. ⌜ Leading (countsBy (now (counts .entry)) at (now (order .entry))) 9 r ⌝ }
 {
     let mut best: usize = 0;
     let mut k: usize = 1;
     while k < 9 {
-        if counts[at + k] < counts[at + best] {
+        if counts[at + order[k]] < counts[at + order[best]] {
             best = k;
         }
         k += 1;

@@ -1,6 +1,2 @@
--- Laws of a level's bitmaps and of its choice.
-pub mod SideLaws
-pub mod PlaneLaws
-pub mod SlideLaws
-pub mod CountLaws
+-- Laws of a level's counts and of its choice.
 pub mod ChoiceLaws

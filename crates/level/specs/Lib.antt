@@ -1,4 +1,2 @@
--- What the functions of a level require and keep, in terms of document 01's definitions.
-pub mod Sides
-pub mod Places
+-- What a level gives.
 pub mod Choices

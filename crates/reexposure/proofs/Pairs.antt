@@ -1,4 +1,5 @@
--- Frames that go together have the same pair answer, for any order of the candidates and any fair exclusion rule; and series with the same pair answers the same answer.
+-- Frames that go together have the same pair answer, for any order of the candidates and any exclusion rule that sees grey values by their order alone;
+-- and series with the same pair answers the same answer.
 use mathlib.Core.Path.{_≡_, refl, ap, ap₂}
 use mathlib.Core.List.{List, [], _∷_, _++_}
 use Prim.Native.Nat.{ℕ, zero, suc, _-_, _≤_, _<_}
@@ -9,9 +10,10 @@ use Rattle.rules.specs.Levels.{ExclusionRule, Aligned}
 use Rattle.rules.specs.Series.{frameOffset, offsetList, countList, answerOf}
 use Rattle.rules.proofs.SeriesLaws.{frame-ext}
 use Rattle.rules.proofs.PairLaws.{Kept}
-use Rattle.reexposure.proofs.Links.{Link, Linked, link-halve, Fair, same-planes}
+use Rattle.reexposure.specs.Reexposure.{ByOrder}
+use Rattle.reexposure.proofs.Links.{Link, Linked, link-halve, same-planes}
 
-pub linked-kept : (exclusion : ExclusionRule) (percentile : ℕ) → Fair exclusion percentile → 1 ≤ percentile → percentile ≤ 99
+pub linked-kept : (exclusion : ExclusionRule) (percentile : ℕ) → ByOrder exclusion → 1 ≤ percentile → percentile ≤ 99
     → (Q : ℕ → ℕ → Type 0) → Link Q → Kept exclusion percentile (Linked Q)
 linked-kept exclusion percentile fair some most Q link = record {
   planes = λ w h f g linked. same-planes Q link exclusion percentile w h f g fair some most linked;

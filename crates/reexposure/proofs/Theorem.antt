@@ -1,4 +1,4 @@
--- Demand 3 of the definitions, whole: any order of the candidates with steps of at most 1, any fair exclusion rule; then document 01's.
+-- Demand 3 of the definitions, whole.
 use mathlib.Core.Path.{_≡_, refl}
 use mathlib.Core.List.{List}
 use Prim.Native.Nat.{ℕ, suc, _+_, _*_, _-_, _^_, _≤_, _<_}
@@ -8,13 +8,13 @@ use lib.Seq.{getD-drop}
 use Rattle.rules.specs.Greys.{grey, greyFrame}
 use Rattle.rules.specs.Planes.{distance}
 use Rattle.rules.specs.declared.Offset.{Offset}
-use Rattle.rules.specs.Levels.{ExclusionRule, wardOrder, byTolerance, pair, Near, Every}
-use Rattle.rules.specs.Series.{Settings, greyOf, pairOf, frameOffset, answerOf, answerBy, seriesAnswer}
-use Rattle.reexposure.specs.Reexposure.{Reexposed, Bytes, Sound, Bounded, Demand3}
-use Rattle.reexposure.proofs.Links.{Link, Linked, Fair, fair-zero}
+use Rattle.rules.specs.Levels.{arranged, ExclusionRule, pair, Near, Every}
+use Rattle.rules.specs.Series.{Settings, greyOf, pairOf, frameOffset, answerOf, answerBy}
+use Rattle.reexposure.specs.Reexposure.{Reexposed, Bytes, Sound, Bounded, ByOrder, Demand3}
+use Rattle.reexposure.proofs.Links.{Link, Linked}
 use Rattle.reexposure.proofs.Pairs.{linked-kept, answer-ext}
 use Rattle.rules.proofs.PairLaws.{pair-by}
-use Rattle.rules.proofs.OffsetLaws.{near-pair, near-ward, near-frame, offset-at}
+use Rattle.rules.proofs.OffsetLaws.{near-pair, near-arranged, near-frame, offset-at}
 
 -- grey values that some pixel of frame k has in F and in F′
 record Seen (S : Settings) (F F′ : List ℕ) (k : ℕ) (v v′ : ℕ) : Type 0 where
@@ -52,7 +52,7 @@ seen S F F′ k x y l m = record { x = x; y = y; inside-x = l; inside-y = m; her
 
 -- every re-exposed series has the same answer
 pub same-answer : (order : List Offset) (exclusion : ExclusionRule) (S : Settings) (F F′ : List ℕ) → Sound S
-    → ((p : ℕ) → 1 ≤ p → p ≤ 99 → Fair exclusion p) → Bytes F → Bytes F′ → Reexposed S F F′
+    → ByOrder exclusion → Bytes F → Bytes F′ → Reexposed S F F′
     → answerBy order exclusion S F ≡ answerBy order exclusion S F′
 unfolding answerBy pairOf
 same-answer order exclusion S F F′ sound fair bytes bytes′ alike =
@@ -63,7 +63,7 @@ same-answer order exclusion S F F′ sound fair bytes bytes′ alike =
     (λ k l.
     let p : ℕ = getD (S .percentiles) k 0 in
     let fits = sound .percentile k (omega arith) in
-    let kept = linked-kept exclusion p (fair p (fits .0) (fits .1)) (fits .0) (fits .1) in
+    let kept = linked-kept exclusion p fair (fits .0) (fits .1) in
     pair-by order exclusion p (Linked (Seen S F F′ k)) (Linked (Seen S F F′ (k + 1)))
     (kept (Seen S F F′ k) (seen-link S F F′ bytes bytes′ alike k (omega arith)))
     (kept (Seen S F F′ (k + 1)) (seen-link S F F′ bytes bytes′ alike (k + 1) (omega arith)))
@@ -92,9 +92,8 @@ bounded order steps exclusion S F reference = record {
 
 -- THE THEOREM (its statement is `Demand3` in specs/Reexposure.antt).
 pub demand3 : Demand3
-unfolding seriesAnswer
-demand3 S F F′ sound tolerance bytes bytes′ alike = record {
-  same = same-answer wardOrder (byTolerance (S .tolerance)) S F F′ sound (λ p a b. fair-zero (S .tolerance) p tolerance a b) bytes bytes′ alike;
-  bound = bounded wardOrder near-ward (byTolerance (S .tolerance)) S F (sound .reference);
-  bound′ = bounded wardOrder near-ward (byTolerance (S .tolerance)) S F′ (sound .reference);
+demand3 places arrangement rule byOrder S F F′ sound bytes bytes′ alike = record {
+  same = same-answer (arranged places) rule S F F′ sound byOrder bytes bytes′ alike;
+  bound = bounded (arranged places) (near-arranged places) rule S F (sound .reference);
+  bound′ = bounded (arranged places) (near-arranged places) rule S F′ (sound .reference);
 }

@@ -5,7 +5,9 @@ use Prim.Native.Nat.{ℕ, suc, _+_, _*_, _-_, _^_, _≤_, _<_, compare}
 use lib.IntN.{pos, natAbs}
 use lib.ListN.{getD}
 use Rattle.rules.specs.Planes.{distance}
-use Rattle.rules.specs.Series.{Settings, greyOf, Answer, seriesAnswer}
+use Rattle.rules.specs.declared.Offset.{Offset}
+use Rattle.rules.specs.Levels.{Arrangement, arranged, ExclusionRule, byTolerance}
+use Rattle.rules.specs.Series.{Settings, greyOf, Answer, answerBy}
 
 -- "for each frame and any two of its pixels, their full-size grey values compare in F' as in F": darker, equal or brighter
 pub record Reexposed (S : Settings) (F F′ : List ℕ) : Type 0 where
@@ -26,12 +28,25 @@ pub record Bounded (S : Settings) (answer : Answer) : Type 0 where
   pub dx : (k : ℕ) → k < S .frames → natAbs (getD (answer .offsets) (2 * k) (pos 0)) ≤ distance k (S .reference) * (2 ^ suc (S .halvings) - 1)
   pub dy : (k : ℕ) → k < S .frames → natAbs (getD (answer .offsets) (2 * k + 1) (pos 0)) ≤ distance k (S .reference) * (2 ^ suc (S .halvings) - 1)
 
--- what holds of a series F and of F′, F re-exposed: the same answer, offsets and counts, and both bounded
-pub record Alike (S : Settings) (F F′ : List ℕ) : Type 0 where
-  pub same : seriesAnswer S F ≡ seriesAnswer S F′
-  pub bound : Bounded S (seriesAnswer S F)
-  pub bound′ : Bounded S (seriesAnswer S F′)
+-- An exclusion rule that sees grey values by their order alone: of a level's thresholds it sees whether a grey value is darker, equal or brighter.
+pub record ByOrder (rule : ExclusionRule) : Type 0 where
+  pub alike : (percentile : ℕ) → 1 ≤ percentile → percentile ≤ 99 → (t t′ : ℕ → ℕ) (v v′ : ℕ)
+      → ((p : ℕ) → 1 ≤ p → p ≤ 99 → compare (t p) v ≡ compare (t′ p) v′)
+      → rule t percentile v ≡ rule t′ percentile v′
 
--- Demand 3 of the definitions: one statement about whole series and every re-exposed one (proved in proofs/Theorem.antt as `demand3`)
+-- what holds of a series F and of F′, F re-exposed, for an order of the nine and an exclusion rule: the same answer, offsets and counts, and both bounded
+pub record Alike (order : List Offset) (rule : ExclusionRule) (S : Settings) (F F′ : List ℕ) : Type 0 where
+  pub same : answerBy order rule S F ≡ answerBy order rule S F′
+  pub bound : Bounded S (answerBy order rule S F)
+  pub bound′ : Bounded S (answerBy order rule S F′)
+
+-- Demand 3 of the definitions: one statement about whole series and every re-exposed one, for every arrangement of the nine and every exclusion rule
+-- that sees grey values by their order alone (proved in proofs/Theorem.antt as `demand3`).
 abbrev pub Demand3 : Type 0
-Demand3 = (S : Settings) (F F′ : List ℕ) → Sound S → S .tolerance ≡ 0 → Bytes F → Bytes F′ → Reexposed S F F′ → Alike S F F′
+Demand3 =
+    (places : List ℕ) → Arrangement places → (rule : ExclusionRule) → ByOrder rule
+    → (S : Settings) (F F′ : List ℕ) → Sound S → Bytes F → Bytes F′ → Reexposed S F F′ → Alike (arranged places) rule S F F′
+
+-- "tolerance 0" is one such rule (proved there as `zero-by-order`)
+abbrev pub ZeroByOrder : Type 0
+ZeroByOrder = ByOrder (byTolerance 0)

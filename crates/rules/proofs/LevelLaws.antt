@@ -1,15 +1,17 @@
 -- Laws of a level's answer: the candidate chosen, by its place among the nine.
-use mathlib.Core.Path.{_≡_, refl}
-use mathlib.Core.Bool.{Bool, true, false, cond}
+use mathlib.Core.Path.{_≡_, refl, sym, ap}
+use mathlib.Core.Bool.{Bool, true, false, _&&_, cond, true≢false}
+use mathlib.Core.Logic.{⊎-elim}
 use mathlib.Core.List.{List, [], _∷_, map}
 use Prim.Native.Nat.{ℕ, zero, suc, _/_, _%_, _≤_, _<_}
 use native.Mathlib.Omega.{arith}
-use lib.Dec.{ltb}
+use lib.Dec.{eqb, ltb}
 use lib.IntN.{ℤ, pos, negsuc}
 use lib.ListN.{length, getD}
-use borrow.Author.Tests.{ltb-true, ltb-false}
+use borrow.Author.Tests.{ltb-true, ltb-false, eqb-true}
 use Rattle.rules.specs.declared.Offset.{Offset}
-use Rattle.rules.specs.Levels.{still, added, wardOrder, firstLeast, chosen, candidateAt, stepOf}
+use Rattle.rules.proofs.SumLaws.{order}
+use Rattle.rules.specs.Levels.{still, added, wardOrder, arranged, times, Arrangement, firstLeast, chosen, candidateAt, stepOf}
 
 -- place r of a list has the least count, and every place before it a greater one
 pub record FirstLeast (count : Offset → ℕ) (ms : List Offset) (r : ℕ) : Type 0 where
@@ -72,3 +74,51 @@ candidate-is centre (suc (suc (suc (suc (suc (suc zero)))))) l = refl
 candidate-is centre (suc (suc (suc (suc (suc (suc (suc zero))))))) l = refl
 candidate-is centre (suc (suc (suc (suc (suc (suc (suc (suc zero)))))))) l = refl
 candidate-is centre (suc (suc (suc (suc (suc (suc (suc (suc (suc k))))))))) l = absurd (omega arith)
+
+-- A list is an arrangement of the nine by a test that is computed.
+abbrev pub allBelow : ℕ → List ℕ → Bool
+allBelow n [] = true
+allBelow n (k ∷ ks) = ltb k n && allBelow n ks
+
+abbrev pub eachOnce : ℕ → List ℕ → Bool
+eachOnce zero ks = true
+eachOnce (suc n) ks = eqb (times n ks) 1 && eachOnce n ks
+
+both-true : (a b : Bool) → a && b ≡ true → (a ≡ true) × (b ≡ true)
+both-true true b e = (refl, e)
+both-true false b e = absurd (true≢false (sym e))
+
+below : (n : ℕ) (ks : List ℕ) → allBelow n ks ≡ true → (j : ℕ) → j < length ks → getD ks j 0 < n
+below n [] e j l = absurd (omega arith)
+below n (k ∷ ks) e zero l = ltb-true k n (both-true (ltb k n) (allBelow n ks) e .0)
+below n (k ∷ ks) e (suc j) l = below n ks (both-true (ltb k n) (allBelow n ks) e .1) j (omega arith)
+
+once : (n : ℕ) (ks : List ℕ) → eachOnce n ks ≡ true → (p : ℕ) → p < n → times p ks ≡ 1
+once zero ks e p l = absurd (omega arith)
+once (suc n) ks e p l =
+    let t = both-true (eqb (times n ks) 1) (eachOnce n ks) e in
+    ⊎-elim (λ (m : p < n). once n ks (t .1) p m) (λ (m : n ≤ p). let d : p ≡ n = omega arith in rw d (eqb-true (times n ks) 1 (t .0))) (order p n)
+
+pub arrangement : (places : List ℕ) → length places ≡ 9 → allBelow 9 places ≡ true → eachOnce 9 places ≡ true → Arrangement places
+arrangement places nine b o = record {
+  nine = nine;
+  inside = λ j l. below 9 places b j (rw nine l);
+  once = once 9 places o;
+}
+
+-- a list made element by element, at a place
+pub map-at : {A B : Type 0} (f : A → B) (l : List A) (a : A) (b : B) (k : ℕ) → k < length l → getD (map f l) k b ≡ f (getD l k a)
+map-at f [] a b k l = absurd (omega arith)
+map-at f (x ∷ xs) a b zero l = refl
+map-at f (x ∷ xs) a b (suc k) l = map-at f xs a b k (omega arith)
+
+-- candidate j of an order around a centre
+pub arranged-at : (centre : Offset) (places : List ℕ) (j : ℕ) → j < length places → getD places j 0 < 9
+    → getD (map (added centre) (arranged places)) j still ≡ candidateAt centre (getD places j 0)
+arranged-at centre [] j l m = absurd (omega arith)
+arranged-at centre (p ∷ ps) zero l m = sym (map-at (added centre) wardOrder still still p m)
+arranged-at centre (p ∷ ps) (suc j) l m = arranged-at centre ps j (omega arith) m
+
+pub arranged-length : (centre : Offset) (places : List ℕ) → length (map (added centre) (arranged places)) ≡ length places
+arranged-length centre [] = refl
+arranged-length centre (p ∷ ps) = ap suc (arranged-length centre ps)

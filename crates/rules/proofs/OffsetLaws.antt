@@ -16,7 +16,7 @@ use Rattle.rules.specs.Frames.{Frame}
 use Rattle.rules.specs.Greys.{halved}
 use Rattle.rules.specs.Planes.{distance}
 use Rattle.rules.specs.declared.Offset.{Offset}
-use Rattle.rules.specs.Levels.{still, added, Near, Every, ExclusionRule, wardOrder, firstLeast, chosen, level, countAt, pair}
+use Rattle.rules.specs.Levels.{still, added, Near, Every, ExclusionRule, wardOrder, arranged, firstLeast, chosen, level, countAt, pair}
 use Rattle.rules.specs.Series.{sumFrom, opposite, frameOffset, offsetList}
 use Rattle.rules.proofs.SumLaws.{order}
 
@@ -90,8 +90,18 @@ near-pair order steps exclusion percentile (suc s) w h a b =
     rw e at (near-level order steps (countAt exclusion percentile w h a b) (n + n) (added (coarse .offset) (coarse .offset)) (coarse .counts)
     (near-add n n (coarse .offset) (coarse .offset) c c))
 
-pub near-ward : Every (Near 1) wardOrder
+near-ward : Every (Near 1) wardOrder
 near-ward = omega arith
+
+-- any order of the nine takes steps of at most 1
+pub near-arranged : (places : List ℕ) → Every (Near 1) (arranged places)
+near-arranged [] = tt
+near-arranged (p ∷ ps) = (every-at (Near 1) wardOrder (near-still 1) near-ward p, near-arranged ps)
+  where
+    every-at : (P : Offset → Type 0) (ms : List Offset) → P still → Every P ms → (k : ℕ) → P (getD ms k still)
+    every-at P [] p all k = p
+    every-at P (m ∷ ms) p all zero = all .0
+    every-at P (m ∷ ms) p all (suc k) = every-at P ms p (all .1) k
 
 near-sum : (b : ℕ) (d : ℕ → Offset) (a n : ℕ) → ((k : ℕ) → k < a + n → Near b (d k)) → Near (n * b) (sumFrom d a n)
 unfolding sumFrom

@@ -1,4 +1,5 @@
 -- For each offered call its answer, and what each lent buffer holds when it returns, from the call's inputs alone.
+use mathlib.Core.Path.{_≡_}
 use mathlib.Core.List.{List}
 use Prim.Native.Nat.{ℕ, _/_}
 use lib.ListN.{length}
@@ -6,16 +7,20 @@ use lib.IntN.{ℤ}
 use Rattle.rules.specs.declared.Written.{Written}
 use Rattle.rules.specs.declared.Counted.{Counted}
 use Rattle.rules.specs.declared.Thresholded.{Thresholded}
+use Rattle.rules.specs.declared.Offset.{Offset}
+use Rattle.rules.specs.declared.Exclusion.{Exclusion}
+use Rattle.rules.specs.declared.Setup.{Setup}
+use Rattle.rules.specs.declared.Paired.{Paired}
 use Rattle.rules.specs.Frames.{frameOf, rows}
 use Rattle.rules.specs.Greys.{greyFrame, halved}
 use Rattle.rules.specs.Thresholds.{threshold}
 use Rattle.rules.specs.Planes.{thresholdBit, exclusionBit, bitsBy, shifted, total}
 use Rattle.rules.specs.Bitmaps.{bitAt, packed}
 use Rattle.rules.specs.Differences.{Planes, difference}
-use Rattle.rules.specs.Levels.{wardOrder, byTolerance, Aligned, pair}
+use Rattle.rules.specs.Levels.{toleranceIn, Aligned, alignedBy}
 use Rattle.rules.specs.Refusals.{greyRefusal, halveRefusal, thresholdRefusal, bitmapsRefusal, shiftRefusal, totalRefusal, differenceRefusal, pairRefusal, seriesRefusal}
-use Rattle.rules.specs.Series.{Settings}
-use Rattle.rules.specs.Answers.{written, counted, thresholded, bufferAfter}
+use Rattle.rules.specs.Series.{Settings, Answer, seriesAnswer}
+use Rattle.rules.specs.Answers.{written, counted, thresholded, paired, bufferAfter}
 
 -- Grey conversion of a raster into a lent grey frame.
 abbrev pub greyAnswer : ℕ → ℕ → List ℕ → List ℕ → Written
@@ -68,21 +73,46 @@ differenceAnswer w h dx dy threshold1 exclusion1 threshold2 exclusion2 =
     counted (differenceRefusal w h (length threshold1) (length exclusion1) (length threshold2) (length exclusion2))
     (difference w h dx dy (planesOf w h threshold1 exclusion1) (planesOf w h threshold2 exclusion2))
 
--- Pair alignment of two rasters: the offset, and the counts in their buffer.
-abbrev pub pairNumber : ℕ → ℕ → ℕ → ℕ → ℕ → List ℕ → List ℕ → List ℕ → List ℕ → List ℕ → ℕ
-pairNumber w h s tolerance percentile first second counts grey words =
-    pairRefusal w h s tolerance percentile (length first) (length second) (length counts) (length grey) (length words)
+-- Pair alignment of two rasters. Document 01's setup leaves pixels out by a tolerance.
+abbrev pub toleranceSetup : ℕ → ℕ → ℕ → ℕ → ℕ → Setup
+toleranceSetup w h s tolerance percentile = record { w = w; h = h; s = s; percentile = percentile; exclusion = Exclusion.Tolerance tolerance }
+
+abbrev pub pairNumber : Setup → List ℕ → List ℕ → List ℕ → List ℕ → List ℕ → ℕ
+pairNumber S first second counts grey words =
+    pairRefusal (S .w) (S .h) (S .s) (toleranceIn (S .exclusion)) (S .percentile) (length first) (length second) (length counts) (length grey) (length words)
 
 -- "the pixel-by-pixel answer": from rasters, sizes and settings alone
-unfoldable pub pairResult : ℕ → ℕ → ℕ → ℕ → ℕ → List ℕ → List ℕ → Aligned
-pairResult w h s tolerance percentile first second =
-    pair wardOrder (byTolerance tolerance) percentile s w h (greyFrame w first) (greyFrame w second)
+unfoldable pub pairResult : List Offset → Setup → List ℕ → List ℕ → Aligned
+pairResult order S first second = alignedBy order S (greyFrame (S .w) first) (greyFrame (S .w) second)
 
--- Series alignment: offsets and counts in their buffers.
-abbrev pub seriesNumber : ℕ → ℕ → ℕ → ℕ → ℕ → ℕ → List ℕ → List ℕ → List ℤ → List ℕ → List ℕ → List ℕ → ℕ
-seriesNumber w h s tolerance n r percentiles rasters offsets counts grey words =
-    seriesRefusal w h s tolerance n r percentiles (length rasters) (length offsets) (length counts) (length grey) (length words)
+-- what a pair call with this refusal number and this result leaves: its answer, the counts, and on refusal its work memory as it was
+pub record PairLeft (number : ℕ) (result : Aligned) (counts counts′ grey grey′ words words′ : List ℕ) (r : Paired) : Type 0 where
+  pub answered : r ≡ paired number (result .offset)
+  pub countsAre : counts′ ≡ bufferAfter number (result .counts) counts
+  pub memoryKept : (number ≡ 0 → ⊥) → (grey′ ≡ grey) × (words′ ≡ words)
 
-abbrev pub settings : ℕ → ℕ → ℕ → ℕ → ℕ → ℕ → List ℕ → Settings
-settings w h s tolerance n r percentiles =
-    record { frames = n; w = w; h = h; halvings = s; tolerance = tolerance; reference = r; percentiles = percentiles }
+-- the pair call: each lent buffer stands twice, as it was before the call and after it
+abbrev pub PairCall : List Offset → Setup → List ℕ → List ℕ → List ℕ → List ℕ → List ℕ → List ℕ → List ℕ → List ℕ → Paired → Type 0
+PairCall order S first second counts counts′ grey grey′ words words′ r =
+    PairLeft (pairNumber S first second counts grey words) (pairResult order S first second) counts counts′ grey grey′ words words′ r
+
+-- Series alignment, by a tolerance too.
+abbrev pub toleranceSettings : ℕ → ℕ → ℕ → ℕ → ℕ → ℕ → List ℕ → Settings
+toleranceSettings w h s tolerance n r percentiles =
+    record { frames = n; w = w; h = h; halvings = s; exclusion = Exclusion.Tolerance tolerance; reference = r; percentiles = percentiles }
+
+abbrev pub seriesNumber : Settings → List ℕ → List ℤ → List ℕ → List ℕ → List ℕ → ℕ
+seriesNumber S rasters offsets counts grey words =
+    seriesRefusal (S .w) (S .h) (S .halvings) (toleranceIn (S .exclusion)) (S .frames) (S .reference) (S .percentiles)
+    (length rasters) (length offsets) (length counts) (length grey) (length words)
+
+-- what a series call with this refusal number and this result leaves
+pub record SeriesLeft (number : ℕ) (result : Answer) (offsets offsets′ : List ℤ) (counts counts′ grey grey′ words words′ : List ℕ) (r : Written) : Type 0 where
+  pub answered : r ≡ written number
+  pub offsetsAre : offsets′ ≡ bufferAfter number (result .offsets) offsets
+  pub countsAre : counts′ ≡ bufferAfter number (result .counts) counts
+  pub memoryKept : (number ≡ 0 → ⊥) → (grey′ ≡ grey) × (words′ ≡ words)
+
+abbrev pub SeriesCall : List Offset → Settings → List ℕ → List ℤ → List ℤ → List ℕ → List ℕ → List ℕ → List ℕ → List ℕ → List ℕ → Written → Type 0
+SeriesCall order S rasters offsets offsets′ counts counts′ grey grey′ words words′ r =
+    SeriesLeft (seriesNumber S rasters offsets counts grey words) (seriesAnswer order S rasters) offsets offsets′ counts counts′ grey grey′ words words′ r

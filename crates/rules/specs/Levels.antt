@@ -1,11 +1,15 @@
 -- Pair alignment, level by level: candidates, first least, doubling. The order of the nine candidates and the exclusion rule are parameters.
+use mathlib.Core.Path.{_≡_}
 use mathlib.Core.Bool.{cond}
 use mathlib.Core.List.{List, [], _∷_, _++_, map}
-use Prim.Native.Nat.{ℕ, zero, suc, _/_, _≤_}
-use lib.Dec.{ltb}
+use Prim.Native.Nat.{ℕ, zero, suc, _+_, _/_, _≤_, _<_}
+use lib.Dec.{eqb, ltb}
 use lib.IntN.{ℤ, pos, negsuc, natAbs, _+ℤ_}
-use lib.ListN.{getD}
+use lib.ListN.{length, getD}
 use Rattle.rules.specs.declared.Offset.{Offset}
+use Rattle.rules.specs.declared.Exclusion.{Exclusion}
+use Rattle.rules.specs.declared.Setup.{Setup}
+use Rattle.rules.specs.Sums.{oneIf}
 use Rattle.rules.specs.Frames.{Frame}
 use Rattle.rules.specs.Greys.{halved}
 use Rattle.rules.specs.Thresholds.{threshold}
@@ -39,6 +43,21 @@ wardOrder =
     step : ℤ → ℤ → Offset
     step i j = record { dx = i; dy = j }
 
+-- An order of the nine in which candidates are preferred, by their places in Ward's order.
+abbrev pub arranged : List ℕ → List Offset
+arranged places = map (λ k. getD wardOrder k still) places
+
+-- how often a number stands in a list
+unfoldable pub times : ℕ → List ℕ → ℕ
+times p [] = 0
+times p (k ∷ ks) = oneIf (eqb k p) + times p ks
+
+-- the nine places, each once: "any fixed order of the nine"
+pub record Arrangement (places : List ℕ) : Type 0 where
+  pub nine : length places ≡ 9
+  pub inside : (j : ℕ) → j < 9 → getD places j 0 < 9
+  pub once : (p : ℕ) → p < 9 → times p places ≡ 1
+
 -- candidate k of the nine around a centre, in Ward's order
 abbrev pub candidateAt : Offset → ℕ → Offset
 candidateAt centre k = getD (map (added centre) wardOrder) k still
@@ -56,6 +75,13 @@ ExclusionRule = (ℕ → ℕ) → ℕ → ℕ → ℕ
 -- document 01's rule: by the tolerance T
 abbrev pub byTolerance : ℕ → ExclusionRule
 byTolerance tolerance thresholds percentile v = exclusionBit (thresholds percentile) tolerance v
+
+abbrev pub toleranceIn : Exclusion → ℕ
+toleranceIn (Exclusion.Tolerance tolerance) = tolerance
+
+-- the rule that a setting names
+abbrev pub ruleOf : Exclusion → ExclusionRule
+ruleOf (Exclusion.Tolerance tolerance) = byTolerance tolerance
 
 -- "Each level takes its threshold afresh": the two planes of a level's grey frame
 unfoldable pub planesBy : ExclusionRule → ℕ → ℕ → ℕ → Frame → Planes
@@ -100,3 +126,7 @@ pair order exclusion percentile zero w h a b = level order (countAt exclusion pe
 pair order exclusion percentile (suc s) w h a b =
     let coarse = pair order exclusion percentile s (w / 2) (h / 2) (halved a) (halved b) in
     level order (countAt exclusion percentile w h a b) (added (coarse .offset) (coarse .offset)) (coarse .counts)
+
+-- the answer of two grey frames, aligned as a setup says
+abbrev pub alignedBy : List Offset → Setup → Frame → Frame → Aligned
+alignedBy order S a b = pair order (ruleOf (S .exclusion)) (S .percentile) (S .s) (S .w) (S .h) a b

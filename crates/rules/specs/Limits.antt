@@ -24,3 +24,14 @@ maxHalvings = 8
 -- "A series has N frames, 1 to 16"
 abbrev pub maxFrames : ℕ
 maxFrames = 16
+
+-- document 000's function reaches 2^(s+1)−1 on an axis: the farthest offset of a pair, with 8 halvings
+abbrev pub maxOffset : ℕ
+maxOffset = 511
+
+-- the farthest centre of a level, an offset doubled, and the farthest candidate around it
+abbrev pub maxCentre : ℕ
+maxCentre = 1022
+
+abbrev pub maxCandidate : ℕ
+maxCandidate = 1023

@@ -8,15 +8,16 @@ use lib.ListN.{getD, drop}
 use Rattle.rules.specs.Frames.{Frame}
 use Rattle.rules.specs.Greys.{greyFrame}
 use Rattle.rules.specs.declared.Offset.{Offset}
-use Rattle.rules.specs.Levels.{still, added, ExclusionRule, byTolerance, wardOrder, Aligned, pair}
+use Rattle.rules.specs.declared.Exclusion.{Exclusion}
+use Rattle.rules.specs.Levels.{still, added, ExclusionRule, ruleOf, Aligned, pair}
 
--- "Its sizes are N, w and h; its settings are s, T, r and the percentiles."
+-- "Its sizes are N, w and h; its settings are s, T, r and the percentiles." T is one way to leave pixels out.
 pub record Settings : Type 0 where
   pub frames : ℕ
   pub w : ℕ
   pub h : ℕ
   pub halvings : ℕ
-  pub tolerance : ℕ
+  pub exclusion : Exclusion
   pub reference : ℕ
   pub percentiles : List ℕ
 
@@ -69,6 +70,6 @@ answerBy order exclusion S rasters =
     answerOf (S .frames) (S .reference)
     (pairOf (λ p. pair order exclusion p (S .halvings) (S .w) (S .h)) (S .percentiles) (greyOf S rasters))
 
--- document 01's answer
-unfoldable pub seriesAnswer : Settings → List ℕ → Answer
-seriesAnswer S rasters = answerBy wardOrder (byTolerance (S .tolerance)) S rasters
+-- the same for the exclusion rule that the settings name
+unfoldable pub seriesAnswer : List Offset → Settings → List ℕ → Answer
+seriesAnswer order S rasters = answerBy order (ruleOf (S .exclusion)) S rasters

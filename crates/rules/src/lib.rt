@@ -24,6 +24,21 @@ pub struct Offset {
     pub dy: i32,
 }
 
+// Which grey values near the threshold a level leaves out.
+pub enum Exclusion {
+    // those at most this far from it
+    Tolerance(u32),
+}
+
+// How two frames of w by h are aligned, with s halvings.
+pub struct Setup {
+    pub w: usize,
+    pub h: usize,
+    pub s: u32,
+    pub percentile: u32,
+    pub exclusion: Exclusion,
+}
+
 // The answer of the pair call: the offset that moves the second frame onto the first.
 pub enum Paired {
     Moved(Offset),

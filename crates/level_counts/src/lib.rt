@@ -1,0 +1,106 @@
+// Difference counts of the two frames whose bitmaps stand one after the other in lent words.
+
+use candidates::candidate;
+use level_planes::bitmap_words;
+use overlap::overlap_frame;
+use rules::Offset;
+use slide::slide_within;
+ghost use mathlib.Core.Path.{_≡_};
+ghost use Prim.Native.Nat.{_+_, _*_, _≤_, _<_};
+ghost use lib.ListN.{length};
+ghost use Rattle.rules.specs.Limits.{maxCentre, maxCandidate};
+ghost use Rattle.rules.specs.Bitmaps.{rowWords};
+ghost use Rattle.rules.specs.Buffers.{RowAt};
+ghost use Rattle.rules.specs.Levels.{candidateAt, Near};
+ghost use Rattle.count.specs.Ones.{CountsOnes};
+ghost use Rattle.level_planes.specs.Sides.{Sides};
+ghost use Rattle.level_counts.specs.Places.{nineOf, columnOf, KeptTo, SlidAt, wordsCount};
+
+// The second frame's bitmaps, moved right by dx, into the words after the four.
+fn slide_second(words: &mut [u64], w: usize, h: usize, dx: i32)
+    requires sides { ⌜ Sides w h ⌝ }
+    requires room { ⌜ 6 * (rowWords w * h) ≤ length (now words) ⌝ }
+    ensures kept { λ _. ⌜ KeptTo (4 * (rowWords w * h)) (now (words .entry)) (now (words .exit)) ⌝ }
+    ensures slid { λ _. ⌜ SlidAt w h dx (now (words .exit)) ⌝ }
+{
+    let n = bitmap_words(w, h);
+    slide_within(words, 2 * n, w, h, dx, 4 * n);
+    slide_within(words, 3 * n, w, h, dx, 5 * n);
+}
+
+// The count at an offset whose dx the second frame has been slid by.
+fn count_slid(words: &[u64], w: usize, h: usize, m: Offset, ones: &[u8; 256]) -> u32
+    requires sides { ⌜ Sides w h ⌝ }
+    requires room { ⌜ 6 * (rowWords w * h) ≤ length (now words) ⌝ }
+    requires near { ⌜ Near maxCandidate m ⌝ }
+    requires slid { ⌜ SlidAt w h (m .dx) (now words) ⌝ }
+    requires table { ⌜ CountsOnes (now ones) ⌝ }
+    ensures { λ r. ⌜ r ≡ wordsCount w h (now (words .entry)) m ⌝ }
+{
+    let n = bitmap_words(w, h);
+    overlap_frame(
+        w,
+        h,
+        m.dy,
+        words,
+        &words[n..],
+        &words[4 * n..],
+        &words[5 * n..],
+        ones,
+    )
+}
+
+// The counts at the three candidates of column i, written from place `at` on.
+fn three_counts(
+    words: &[u64],
+    w: usize,
+    h: usize,
+    centre: Offset,
+    i: usize,
+    counts: &mut [u32],
+    at: usize,
+    ones: &[u8; 256],
+)
+    requires sides { ⌜ Sides w h ⌝ }
+    requires room { ⌜ 6 * (rowWords w * h) ≤ length (now words) ⌝ }
+    requires near { ⌜ Near maxCentre centre ⌝ }
+    requires column { ⌜ i < 3 ⌝ }
+    requires slid { ⌜ SlidAt w h (candidateAt centre (3 * i) .dx) (now words) ⌝ }
+    requires three { ⌜ at + 3 ≤ length (now counts) ⌝ }
+    requires table { ⌜ CountsOnes (now ones) ⌝ }
+    ensures { λ _. ⌜ RowAt at (columnOf (wordsCount w h (now (words .entry))) centre i) (now (counts .entry)) 3 (now (counts .exit)) ⌝ }
+{
+    let mut j: usize = 0;
+    while j < 3 {
+        let m = candidate(centre, 3 * i + j);
+        counts[at + j] = count_slid(words, w, h, m, ones);
+        j += 1;
+    }
+}
+
+// The counts at the nine candidates around a centre, written from place `at` on. The second frame is
+// slid once for the three candidates of a column, and then needs to be moved by whole rows only.
+pub fn nine_counts(
+    words: &mut [u64],
+    w: usize,
+    h: usize,
+    centre: Offset,
+    counts: &mut [u32],
+    at: usize,
+    ones: &[u8; 256],
+)
+    requires sides { ⌜ Sides w h ⌝ }
+    requires room { ⌜ 6 * (rowWords w * h) ≤ length (now words) ⌝ }
+    requires near { ⌜ Near maxCentre centre ⌝ }
+    requires nine { ⌜ at + 9 ≤ length (now counts) ⌝ }
+    requires table { ⌜ CountsOnes (now ones) ⌝ }
+    ensures { λ _. ⌜ RowAt at (nineOf (wordsCount w h (now (words .entry))) centre) (now (counts .entry)) 9 (now (counts .exit)) ⌝ }
+{
+    let mut i: usize = 0;
+    while i < 3 {
+        let m = candidate(centre, 3 * i);
+        slide_second(words, w, h, m.dx);
+        three_counts(words, w, h, centre, i, counts, at + 3 * i, ones);
+        i += 1;
+    }
+}

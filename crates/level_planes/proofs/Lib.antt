@@ -1,0 +1,4 @@
+-- Laws of a level's bitmaps.
+pub mod SideLaws
+pub mod ExcludedLaws
+pub mod PlaneLaws
