@@ -15,7 +15,7 @@ use Rattle.rules.specs.Frames.{frameOf}
 use Rattle.rules.specs.Thresholds.{atMost, reaches, threshold}
 use Rattle.rules.proofs.SumLaws.{sum-ext, sum-zero, sum-all, sum-add, pixels-flat}
 use Rattle.rules.proofs.ThresholdLaws.{least-ext}
-use Rattle.threshold.specs.Flat.{countTo, countIn, atMostIn, thresholdIn, firstReaching}
+use Rattle.threshold.specs.Flat.{countTo, countIn, total, CountsOf, atMostIn, thresholdIn, firstReaching}
 
 -- a value below v + 1 is below v or is v
 below-next : (x v : ℕ) → oneIf (ltb x v) + oneIf (eqb x v) ≡ oneIf (ltb x (v + 1))
@@ -37,27 +37,29 @@ counts-below l n (suc v) =
     ∙ sum-ext n (λ i. oneIf (ltb (getD l i 0) v) + oneIf (eqb (getD l i 0) v)) (λ i. oneIf (ltb (getD l i 0) (suc v)))
     (λ i k. below-next (getD l i 0) v ∙ ap (λ (j : ℕ). oneIf (ltb (getD l i 0) j)) (add-one v))
 
--- What a histogram of a list knows: the count of each grey value.
 module _ (l counts : List ℕ) (e : (v : ℕ) → v < 256 → getD counts v 0 ≡ countIn l v) where
   counts-to : (v : ℕ) → v ≤ 256 → sum v (λ k. getD counts k 0) ≡ sum (length l) (λ i. oneIf (ltb (getD l i 0) v))
   counts-to v m = sum-ext v (λ k. getD counts k 0) (λ k. countIn l k) (λ k n. e k (omega arith)) ∙ counts-below l (length l) v
 
-  -- the counts together are the places of a list of bytes
-  pub counts-all : ((i : ℕ) → i < length l → getD l i 0 < 256) → sum 256 (λ k. getD counts k 0) ≡ length l
-  counts-all b =
-      counts-to 256 (omega arith)
-      ∙ sum-all (length l) 1 (λ i. oneIf (ltb (getD l i 0) 256)) (λ i k. rw (lt-ltb (getD l i 0) 256 (b i k)))
-      ∙ omega arith
+  -- the counts of each value of a list of bytes together count its places
+  pub counts-of : ((i : ℕ) → i < length l → getD l i 0 < 256) → CountsOf l counts
+  counts-of b = record {
+    each = e;
+    all = counts-to 256 (omega arith)
+        ∙ sum-all (length l) 1 (λ i. oneIf (ltb (getD l i 0) 256)) (λ i k. rw (lt-ltb (getD l i 0) 256 (b i k)))
+        ∙ omega arith;
+  }
 
-  -- the walk over the counts gives the list's threshold
-  pub walk-is : (percentile : ℕ) → firstReaching (percentile * length l) counts ≡ thresholdIn percentile l
-  unfolding firstReaching thresholdIn atMostIn
-  walk-is percentile =
-      least-ext maxGrey (λ v. leb (percentile * length l) (100 * sum (v + 1) (λ k. getD counts k 0))) (λ v. leb (percentile * length l) (100 * atMostIn l v))
-      (λ v m. ap (λ (s : ℕ). leb (percentile * length l) (100 * s))
-      (counts-to (v + 1) (omega arith)
-      ∙ sum-ext (length l) (λ i. oneIf (ltb (getD l i 0) (v + 1))) (λ i. oneIf (leb (getD l i 0) v))
-      (λ i k. ap oneIf (ap (λ (j : ℕ). ltb (getD l i 0) j) (add-one v) ∙ leb·suc-suc (getD l i 0) v))))
+-- the walk over the counts of a list gives its threshold
+pub walk-is : (percentile : ℕ) (l counts : List ℕ) → CountsOf l counts → firstReaching (percentile * total counts) counts ≡ thresholdIn percentile l
+unfolding firstReaching thresholdIn atMostIn
+walk-is percentile l counts c =
+    least-ext maxGrey (λ v. leb (percentile * total counts) (100 * sum (v + 1) (λ k. getD counts k 0))) (λ v. leb (percentile * length l) (100 * atMostIn l v))
+    (λ v m. ap₂ (λ (n s : ℕ). leb (percentile * n) (100 * s))
+    (c .all)
+    (counts-to l counts (c .each) (v + 1) (omega arith)
+    ∙ sum-ext (length l) (λ i. oneIf (ltb (getD l i 0) (v + 1))) (λ i. oneIf (leb (getD l i 0) v))
+    (λ i k. ap oneIf (ap (λ (j : ℕ). ltb (getD l i 0) j) (add-one v) ∙ leb·suc-suc (getD l i 0) v))))
 
 -- the list's threshold is its frame's
 pub threshold-flat : (w h percentile : ℕ) (l : List ℕ) → length l ≡ w * h → thresholdIn percentile l ≡ threshold w h percentile (frameOf w l)

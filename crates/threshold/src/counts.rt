@@ -3,7 +3,7 @@
 ghost use mathlib.Core.Path.{_≡_};
 ghost use Prim.Native.Nat.{ℕ, _+_, _-_, _%_, _<_, _≤_};
 ghost use lib.ListN.{length, getD};
-ghost use Rattle.threshold.specs.Flat.{maxPixels, countTo, countIn};
+ghost use Rattle.threshold.specs.Flat.{maxPixels, countTo, countIn, CountsOf};
 ghost use Rattle.threshold.specs.Tables.{Room, Bumped, four, Tally};
 
 // One more of a value.
@@ -40,7 +40,8 @@ fn count_fours(
 // The pixels from a place on, which the turns of four leave over, into one table.
 fn count_rest(grey: &[u8], from: usize, table: &mut [u32; 256])
     requires { ⌜ (from ≤ length (now grey)) × (length (now grey) ≤ maxPixels) × (length (now table) ≡ 256) × ((v : ℕ) → getD (now table) v 0 ≤ countTo (now grey) from v) ⌝ }
-    ensures { λ _. ⌜ (length (now (table .exit)) ≡ 256) × ((v : ℕ) → getD (now (table .exit)) v 0 + countTo (now (grey .entry)) from v ≡ getD (now (table .entry)) v 0 + countIn (now (grey .entry)) v) ⌝ }
+    ensures { λ _. ⌜ (length (now (table .exit)) ≡ 256)
+        × ((v : ℕ) → getD (now (table .exit)) v 0 + countTo (now (grey .entry)) from v ≡ getD (now (table .entry)) v 0 + countIn (now (grey .entry)) v) ⌝ }
 {
     let mut i = from;
     while i < grey.len() {
@@ -64,7 +65,7 @@ fn merge(a: &mut [u32; 256], b: &[u32; 256], c: &[u32; 256], d: &[u32; 256])
 // How often each of the 256 grey values stands in a frame.
 pub fn histogram(grey: &[u8]) -> [u32; 256]
     requires { ⌜ length (now grey) ≤ maxPixels ⌝ }
-    ensures { λ r. ⌜ ((v : ℕ) → v < 256 → getD r v 0 ≡ countIn (now (grey .entry)) v) ⌝ }
+    ensures { λ r. ⌜ CountsOf (now (grey .entry)) r ⌝ }
 {
     let mut a = [0u32; 256];
     let mut b = [0u32; 256];

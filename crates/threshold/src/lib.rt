@@ -5,7 +5,9 @@ pub mod walk; // walk.rt: the walk over the counts
 
 ghost use mathlib.Core.Path.{_≡_};
 ghost use Rattle.rules.specs.Calls.{thresholdAnswer};
+use counts::histogram;
 use rules::Thresholded;
+use walk::threshold_of;
 
 // The threshold of a grey frame for a percentile of 17, 50 or 83.
 pub fn threshold(w: usize, h: usize, percentile: u32, grey: &[u8]) -> Thresholded
@@ -15,5 +17,6 @@ pub fn threshold(w: usize, h: usize, percentile: u32, grey: &[u8]) -> Thresholde
     if n != 0 {
         return Thresholded::Refused(n);
     }
-    Thresholded::At(walk::percentile_of(grey, percentile))
+    let counts = histogram(grey);
+    Thresholded::At(threshold_of(&counts, grey.len(), percentile))
 }

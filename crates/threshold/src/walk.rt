@@ -1,15 +1,13 @@
 // The walk over the counts of the grey values. It serves any percentile from 1 to 99.
 
 ghost use mathlib.Core.Path.{_≡_};
-ghost use Prim.Native.Nat.{_*_, _<_, _≤_};
-ghost use lib.ListN.{length, getD};
-ghost use Rattle.rules.specs.Sums.{sum};
-ghost use Rattle.threshold.specs.Flat.{maxPixels, thresholdIn, firstReaching};
-use crate::counts::histogram;
+ghost use mathlib.Core.List.{List};
+ghost use Prim.Native.Nat.{ℕ, _*_, _≤_};
+ghost use Rattle.threshold.specs.Flat.{maxPixels, total, CountsOf, thresholdIn, firstReaching};
 
 // The first value whose running count, a hundred times, reaches the goal.
-pub fn first_reaching(counts: &[u32; 256], goal: u64) -> u8
-    requires { ⌜ (sum 256 (λ k. getD (now counts) k 0) ≤ maxPixels) × (goal ≤ 100 * sum 256 (λ k. getD (now counts) k 0)) ⌝ }
+fn first_reaching(counts: &[u32; 256], goal: u64) -> u8
+    requires { ⌜ (total (now counts) ≤ maxPixels) × (goal ≤ 100 * total (now counts)) ⌝ }
     ensures { λ r. ⌜ r ≡ firstReaching goal (now (counts .entry)) ⌝ }
 {
     let mut count: u64 = 0;
@@ -25,12 +23,11 @@ pub fn first_reaching(counts: &[u32; 256], goal: u64) -> u8
     t
 }
 
-// The threshold of a frame's grey values for a percentile.
-pub fn percentile_of(grey: &[u8], percentile: u32) -> u8
-    requires { ⌜ (0 < length (now grey)) × (length (now grey) ≤ maxPixels) × (1 ≤ percentile) × (percentile ≤ 99) ⌝ }
-    ensures { λ r. ⌜ r ≡ thresholdIn percentile (now (grey .entry)) ⌝ }
+// The threshold for a percentile, from the counts of a frame's grey values: one count of a frame serves several percentiles.
+pub fn threshold_of(counts: &[u32; 256], pixels: usize, percentile: u32) -> u8
+    requires { ⌜ (total (now counts) ≡ pixels) × (pixels ≤ maxPixels) × (percentile ≤ 99) ⌝ }
+    ensures { λ r. ⌜ ((l : List ℕ) → CountsOf l (now (counts .entry)) → r ≡ thresholdIn percentile l) ⌝ }
 {
-    let counts = histogram(grey);
-    let goal = (percentile as u64) * (grey.len() as u64);
-    first_reaching(&counts, goal)
+    let goal = (percentile as u64) * (pixels as u64);
+    first_reaching(counts, goal)
 }

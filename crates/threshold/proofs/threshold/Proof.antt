@@ -18,27 +18,31 @@ threshold-refusal-requires c κs = search needs
 returns : tie.Need-returns
 returns c = rw (← c .before .threshold-refusal .ensures) (thresholded-refused _ _ (c .if1 .taken))
 
--- the number is 0 past the test
+-- an accepted call: the number is 0 past the test
 accepted : (c : tie.Else1)
-    → thresholdRefusal (c .before .before .before .args .w) (c .before .before .before .args .h) (c .before .before .before .args .percentile) (length (c .before .before .before .args .grey .now)) ≡ 0
+    → (let a = c .before .before .before .args in thresholdRefusal (a .w) (a .h) (a .percentile) (length (a .grey .now))) ≡ 0
 accepted c = sym (c .before .threshold-refusal .ensures) ∙ c .if1 .left
 
-known : (c : tie.Else1)
-    → ThresholdOk (c .before .before .before .args .w) (c .before .before .before .args .h) (c .before .before .before .args .percentile) (length (c .before .before .before .args .grey .now))
+known : (c : tie.Else1) → (let a = c .before .before .before .args in ThresholdOk (a .w) (a .h) (a .percentile) (length (a .grey .now)))
 known c = threshold-ok _ _ _ _ (accepted c)
 
-percentile-of-requires : tie.Need-percentile-of-requires
-percentile-of-requires c κs =
-    let k = known c in
+histogram-requires : tie.Need-histogram-requires
+histogram-requires c κs = let k = known c in let m = mul-le-mul (k .size .wide) (k .size .high) in omega arith
+
+threshold-of-requires : tie.Need-threshold-of-requires
+threshold-of-requires c κs =
+    let k = known (c .before .before) in
     let m = mul-le-mul (k .size .wide) (k .size .high) in
-    omega arith
+    (c .before .histogram .ensures .all, omega arith, omega arith)
 
 returns-2 : tie.Need-returns-2
 returns-2 c =
-    let a = c .before .before .before .before .args in
-    rw (accepted (c .before))
-    (ap Thresholded.At (c .percentile-of .ensures ∙ threshold-flat (a .w) (a .h) (a .percentile) (a .grey .now) (known (c .before) .exact)))
+    let e = c .before .before .before in
+    let a = e .before .before .before .args in
+    rw (accepted e)
+    (ap Thresholded.At
+    (c .threshold-of .ensures (a .grey .now) (c .before .before .histogram .ensures) ∙ threshold-flat (a .w) (a .h) (a .percentile) (a .grey .now) (known e .exact)))
 
 pub threshold-spec : {M : Type 1} → statement M
 threshold-spec =
-    tie.close (tie.spec threshold-refusal-requires returns percentile-of-requires returns-2)
+    tie.close (tie.spec threshold-refusal-requires returns histogram-requires threshold-of-requires returns-2)

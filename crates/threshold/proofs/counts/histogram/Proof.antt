@@ -1,10 +1,11 @@
--- `threshold::counts::histogram` meets its contract: the turns of four and the rest together count every pixel once.
-use mathlib.Core.Path.{_≡_, _∙_}
+-- `threshold::counts::histogram` meets its contract: the turns of four and the rest together count every pixel once, and each pixel is a byte.
+use mathlib.Core.Path.{_≡_}
 use lib.ListN.{length}
 use Prim.Native.Nat.{ℕ}
 use Rattle.threshold.specs.Flat.{countIn}
 use Rattle.threshold.specs.Tables.{four}
 use Rattle.threshold.proofs.CountLaws.{count-le, tally-none, tally-rest}
+use Rattle.threshold.proofs.FlatLaws.{counts-of}
 use native.Mathlib.Omega.{arith}
 use borrow.Author.Needs.{needs}
 use Rattle.threshold.proofs.counts.histogram.Statement.{statement}
@@ -43,7 +44,10 @@ merge-requires c κs =
     (r .count-rest .ensures .0, λ v. omega (arith, counted r v, count-le l (length l) v))
 
 returns : tie.Need-returns
-returns c = λ v k. c .merge .ensures v k ∙ counted (c .before .before .before .before .before) v
+returns c =
+    let r = c .before .before .before .before .before in
+    let k = r .before .before .before .before .before .before .before in
+    counts-of _ _ (λ v l. omega (arith, c .merge .ensures v l, counted r v)) (λ i l. k .shared-slice-known .given i .fits)
 
 pub histogram-spec : {M : Type 1} → statement M
 histogram-spec =
