@@ -1,2 +1,2 @@
--- Laws of the buffer of offsets.
-pub mod SlotLaws
+-- Laws of the lists of offsets.
+pub mod PairLaws

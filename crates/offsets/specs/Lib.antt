@@ -1,2 +1,2 @@
--- Where the offsets of the pairs stand, and what becomes of them.
-pub mod Held
+-- Where the offsets of pairs stand in a list.
+pub mod Pairs

@@ -1,52 +1,78 @@
-// The offsets of a series' pairs turned into the offsets of its frames, in place.
+// The offsets of a series' frames from its reference, from the offsets of its pairs.
 
+use rules::Offset;
 ghost use mathlib.Core.Path.{_≡_};
-ghost use Prim.Native.Nat.{ℕ, _+_, _*_, _<_, _≤_};
-ghost use lib.IntN.{pos, natAbs};
-ghost use lib.ListN.{length, getD};
-ghost use Rattle.offsets.specs.Held.{Cleared, Summed, SummedFrom};
+ghost use Prim.Native.Nat.{_+_, _*_, _-_, _<_, _≤_};
+ghost use lib.ListN.{length};
+ghost use Rattle.rules.specs.Frames.{writtenOver};
+ghost use Rattle.rules.specs.Levels.{added, Near};
+ghost use Rattle.rules.specs.Series.{opposite, frameOffset, offsetList};
+ghost use Rattle.offsets.specs.Pairs.{maxPairOffset, pairOffset, withOffset, SmallPairs};
 
-// The frames above the reference: each has the sum of the frame below it and of their pair.
-fn sum_up(offsets: &mut [i32], n: usize, r: usize)
-    requires { ⌜ (r < n) × (n ≤ 16) × (2 * n ≤ length (now offsets)) ⌝ }
-    requires { ⌜ Cleared (now offsets) n r ⌝ }
-    ensures { λ _. ⌜ SummedFrom (now (offsets .entry)) (now (offsets .exit)) r r n ⌝ }
+// Writes offset k of a list. (The language stores no field directly, only a local.)
+pub fn put_offset(list: &mut [i32], k: usize, m: Offset)
+    requires { ⌜ 2 * k + 2 ≤ length (now list) ⌝ }
+    ensures { λ _. ⌜ now (list .exit) ≡ withOffset k m (now (list .entry)) ⌝ }
 {
-    let mut k = r;
-    while k + 1 < n {
-        let from = 2 * k;
-        let to = 2 * k + 2;
-        offsets[to] = offsets[from] + offsets[to];
-        offsets[to + 1] = offsets[from + 1] + offsets[to + 1];
+    let at = 2 * k;
+    let dx = m.dx;
+    let dy = m.dy;
+    list[at] = dx;
+    list[at + 1] = dy;
+}
+
+// The offset of frame k + 1: that of frame k, and that of their pair.
+fn next_offset(m: Offset, pairs: &[i32], k: usize) -> Offset
+    requires { ⌜ 2 * k + 2 ≤ length (now pairs) ⌝ }
+    requires { ⌜ Near 2000000 m × Near maxPairOffset (pairOffset (now pairs) k) ⌝ }
+    ensures { λ r. ⌜ r ≡ added m (pairOffset (now (pairs .entry)) k) ⌝ }
+{
+    let at = 2 * k;
+    let dx = m.dx + pairs[at];
+    let dy = m.dy + pairs[at + 1];
+    Offset { dx, dy }
+}
+
+// The offset the other way: of the first frame from the second, for that of the second from the first.
+fn turned(m: Offset) -> Offset
+    requires { ⌜ Near 2000000 m ⌝ }
+    ensures { λ r. ⌜ r ≡ opposite m ⌝ }
+{
+    let dx = -m.dx;
+    let dy = -m.dy;
+    Offset { dx, dy }
+}
+
+// Frame r's offset from frame 0: the sum of the pairs before it.
+fn from_first(pairs: &[i32], r: usize) -> Offset
+    requires { ⌜ (r < 16) × (2 * r ≤ length (now pairs)) ⌝ }
+    requires { ⌜ SmallPairs r (now pairs) ⌝ }
+    ensures { λ m. ⌜ m ≡ frameOffset (pairOffset (now (pairs .entry))) 0 r ⌝ }
+{
+    let mut sum = Offset { dx: 0, dy: 0 };
+    let mut k: usize = 0;
+    while k < r {
+        sum = next_offset(sum, pairs, k);
         k += 1;
     }
+    sum
 }
 
-// The frames below the reference: each has the frame above it less their pair.
-fn sum_down(offsets: &mut [i32], r: usize)
-    requires { ⌜ (r < 16) × (2 * r + 2 ≤ length (now offsets)) ⌝ }
-    requires { ⌜ Cleared (now offsets) r r ⌝ }
-    ensures { λ _. ⌜ SummedFrom (now (offsets .entry)) (now (offsets .exit)) r 0 (r + 1) ⌝ }
+// The offsets of n frames from the reference r, from those of their pairs. Each frame's is its
+// neighbour's and their pair's, below the reference too; so the frames are gone through upwards.
+pub fn frame_offsets(pairs: &[i32], n: usize, r: usize, offsets: &mut [i32])
+    requires frames { ⌜ (r < n) × (n ≤ 16) ⌝ }
+    requires pairs { ⌜ 2 * (n - 1) ≤ length (now pairs) ⌝ }
+    requires room { ⌜ 2 * n ≤ length (now offsets) ⌝ }
+    requires small { ⌜ SmallPairs (n - 1) (now pairs) ⌝ }
+    ensures { λ _. ⌜ now (offsets .exit) ≡ writtenOver (offsetList n (frameOffset (pairOffset (now (pairs .entry))) r)) (now (offsets .entry)) ⌝ }
 {
-    let mut k = r;
-    while 0 < k {
-        k -= 1;
-        let to = 2 * k;
-        let from = 2 * k + 2;
-        offsets[to] = offsets[from] - offsets[to];
-        offsets[to + 1] = offsets[from + 1] - offsets[to + 1];
+    let mut m = turned(from_first(pairs, r));
+    let mut k: usize = 0;
+    while k + 1 < n {
+        put_offset(offsets, k, m);
+        m = next_offset(m, pairs, k);
+        k += 1;
     }
-}
-
-// The pair of frames j and j + 1 stands in slot j below the reference r, in slot j + 1 above it; slot r is free.
-pub fn sum_about(offsets: &mut [i32], n: usize, r: usize)
-    requires { ⌜ (r < n) × (n ≤ 16) × (2 * n ≤ length (now offsets)) ⌝ }
-    requires { ⌜ ((k : ℕ) → k < 2 * n → (k ≡ 2 * r → ⊥) → (k ≡ 2 * r + 1 → ⊥) → natAbs (getD (now offsets) k (pos 0)) ≤ 511) ⌝ }
-    ensures { λ _. ⌜ Summed (now (offsets .entry)) (now (offsets .exit)) n r ⌝ }
-{
-    let at = 2 * r;
-    offsets[at] = 0;
-    offsets[at + 1] = 0;
-    sum_up(offsets, n, r);
-    sum_down(offsets, r);
+    put_offset(offsets, k, m);
 }

@@ -1,20 +1,16 @@
--- A frame's offset from its neighbour's, and the offsets of a series as a list.
-use mathlib.Core.Path.{_≡_, refl, sym, ap, _∙_}
+-- A frame's offset from its neighbour's; and what a series' answer reads of its pairs.
+use mathlib.Core.Path.{_≡_, refl, sym, ap, ap₂, _∙_}
 use mathlib.Core.Logic.{⊎-elim}
-use mathlib.Core.List.{List}
-use Prim.Native.Nat.{ℕ, zero, suc, _+_, _*_, _-_, _/_, _%_, _≤_, _<_, min, max}
+use mathlib.Core.List.{List, [], _∷_, _++_}
+use Prim.Native.Nat.{ℕ, zero, suc, _+_, _-_, _≤_, _<_, min, max}
 use native.Mathlib.Nat.{add-zero}
 use native.Mathlib.Omega.{arith}
-use lib.IntN.{ℤ, pos, negℤ, _+ℤ_, +ℤ-idl, +ℤ-idr, +ℤ-assoc, +ℤ-comm, negℤ-+ℤ}
-use lib.ListN.{length, getD, drop, length-append, length-drop, List·getD-append}
-use lib.Seq.{getD-append-add, getD-drop, ext-getD}
+use lib.IntN.{ℤ, pos, negℤ, _+ℤ_, +ℤ-idl, +ℤ-idr, +ℤ-assoc, +ℤ-comm, +ℤ-invl, negℤ-+ℤ}
 use borrow.Author.Tests.{le-leb, lt-leb}
-use Rattle.rules.specs.Frames.{writtenOver}
 use Rattle.rules.specs.declared.Offset.{Offset}
-use Rattle.rules.specs.Levels.{still, added}
-use Rattle.rules.specs.Series.{sumFrom, opposite, frameOffset, offsetList}
+use Rattle.rules.specs.Levels.{still, added, Aligned}
+use Rattle.rules.specs.Series.{sumFrom, opposite, frameOffset, offsetList, countList}
 use Rattle.rules.proofs.SumLaws.{order}
-use Rattle.rules.proofs.OffsetLaws.{length-offsets, offset-at}
 
 -- a sum of offsets begun at its front
 pub sum-from-front : (d : ℕ → Offset) (a n : ℕ) → sumFrom d a (suc n) ≡ added (d a) (sumFrom d (a + 1) n)
@@ -49,30 +45,41 @@ pub frame-at : (d : ℕ → Offset) (r : ℕ) → frameOffset d r r ≡ still
 unfolding sumFrom
 frame-at d r = let z : r - r ≡ 0 = omega arith in frame-above d r r (omega arith) ∙ rw z
 
-pub frame-up : (d : ℕ → Offset) (r k : ℕ) → r ≤ k → frameOffset d r (k + 1) ≡ added (frameOffset d r k) (d k)
-unfolding sumFrom
-frame-up d r k l =
-    let s : k + 1 - r ≡ suc (k - r) = omega arith in
-    let e : r + (k - r) ≡ k = omega arith in
-    frame-above d r (k + 1) (omega arith)
-    ∙ ap (sumFrom d r) s
-    ∙ ap (λ (j : ℕ). added (sumFrom d r (k - r)) (d j)) e
-    ∙ ap (λ (m : Offset). added m (d k)) (sym (frame-above d r k l))
+-- frame 0's offset from r is frame r's from 0, the other way
+pub frame-turned : (d : ℕ → Offset) (r : ℕ) → frameOffset d r 0 ≡ opposite (frameOffset d 0 r)
+frame-turned d r = frame-below d r 0 (omega arith) ∙ ap opposite (sym (frame-above d 0 r (omega arith)))
 
-pub frame-down : (d : ℕ → Offset) (r k : ℕ) → k < r → frameOffset d r k ≡ added (frameOffset d r (k + 1)) (opposite (d k))
-frame-down d r k l =
-    let s : r - k ≡ suc (r - (k + 1)) = omega arith in
-    frame-below d r k (omega arith)
-    ∙ ap (λ (n : ℕ). opposite (sumFrom d k n)) s
-    ∙ ap opposite (sum-from-front d k (r - (k + 1)))
-    ∙ (λ i. record { dx = turned (d k .dx) (rest .dx) i; dy = turned (d k .dy) (rest .dy) i })
-    ∙ ap (λ (m : Offset). added m (opposite (d k))) (sym (frame-below d r (k + 1) (omega arith)))
+-- the next frame's offset, on either side of the reference
+pub frame-step : (d : ℕ → Offset) (r k : ℕ) → frameOffset d r (k + 1) ≡ added (frameOffset d r k) (d k)
+unfolding sumFrom
+frame-step d r k = ⊎-elim below above (order k r)
   where
+    above : r ≤ k → frameOffset d r (k + 1) ≡ added (frameOffset d r k) (d k)
+    above l =
+        let s : k + 1 - r ≡ suc (k - r) = omega arith in
+        let e : r + (k - r) ≡ k = omega arith in
+        frame-above d r (k + 1) (omega arith)
+        ∙ ap (sumFrom d r) s
+        ∙ ap (λ (j : ℕ). added (sumFrom d r (k - r)) (d j)) e
+        ∙ ap (λ (m : Offset). added m (d k)) (sym (frame-above d r k l))
+
     rest : Offset
     rest = sumFrom d (k + 1) (r - (k + 1))
 
-    turned : (a b : ℤ) → negℤ (a +ℤ b) ≡ negℤ b +ℤ negℤ a
-    turned a b = negℤ-+ℤ a b ∙ +ℤ-comm (negℤ a) (negℤ b)
+    turned : (a b : ℤ) → negℤ (a +ℤ b) +ℤ a ≡ negℤ b
+    turned a b =
+        ap (λ (z : ℤ). z +ℤ a) (negℤ-+ℤ a b ∙ +ℤ-comm (negℤ a) (negℤ b))
+        ∙ +ℤ-assoc (negℤ b) (negℤ a) a
+        ∙ ap (λ (z : ℤ). negℤ b +ℤ z) (+ℤ-invl a)
+        ∙ +ℤ-idr (negℤ b)
+
+    below : k < r → frameOffset d r (k + 1) ≡ added (frameOffset d r k) (d k)
+    below l =
+        let s : r - k ≡ suc (r - (k + 1)) = omega arith in
+        frame-below d r (k + 1) (omega arith)
+        ∙ sym
+        (ap (λ (m : Offset). added m (d k)) (frame-below d r k (omega arith) ∙ ap (λ (n : ℕ). opposite (sumFrom d k n)) s ∙ ap opposite (sum-from-front d k (r - (k + 1))))
+        ∙ (λ i. record { dx = turned (d k .dx) (rest .dx) i; dy = turned (d k .dy) (rest .dy) i }))
 
 sum-from-ext : (d e : ℕ → Offset) (a n : ℕ) → ((j : ℕ) → a ≤ j → j < a + n → d j ≡ e j) → sumFrom d a n ≡ sumFrom e a n
 unfolding sumFrom
@@ -98,52 +105,18 @@ frame-ext d e r k same = ⊎-elim under over (order k r)
         ∙ sum-from-ext d e r (k - r) (λ j a b. same j (omega arith) (omega arith))
         ∙ sym (frame-above e r k l)
 
--- An offset list is known by its frames and its excess.
-pub offset-list : (n : ℕ) (f : ℕ → Offset) (before after : List ℤ) → length after ≡ length before → 2 * n ≤ length before
-    → ((k : ℕ) → k < n → getD after (2 * k) (pos 0) ≡ f k .dx)
-    → ((k : ℕ) → k < n → getD after (2 * k + 1) (pos 0) ≡ f k .dy)
-    → ((m : ℕ) → 2 * n ≤ m → getD after m (pos 0) ≡ getD before m (pos 0))
-    → after ≡ writtenOver (offsetList n f) before
-offset-list n f before after len room dx dy excess =
-    ext-getD (pos 0) after (writtenOver listed before) lengths (λ i l. ⊎-elim (λ (m : i < 2 * n). inside i m ∙ sym (front i m)) (outside i) (order i (2 * n)))
-  where
-    listed : List ℤ
-    listed = offsetList n f
+-- A series' answer sees only the answers of its pairs.
+pub offset-list-ext : (n : ℕ) (f g : ℕ → Offset) → ((k : ℕ) → k < n → f k ≡ g k) → offsetList n f ≡ offsetList n g
+unfolding offsetList
+offset-list-ext zero f g same = refl
+offset-list-ext (suc n) f g same =
+    ap₂ (λ (l : List ℤ) (m : Offset). l ++ (m .dx ∷ m .dy ∷ [])) (offset-list-ext n f g (λ k l. same k (omega arith))) (same n (omega arith))
 
-    size : length listed ≡ 2 * n
-    size = length-offsets n f
+pub frame-list-ext : (n r : ℕ) (d e : ℕ → Offset) → r < n → ((j : ℕ) → j < n - 1 → d j ≡ e j) → offsetList n (frameOffset d r) ≡ offsetList n (frameOffset e r)
+frame-list-ext n r d e l same = offset-list-ext n (frameOffset d r) (frameOffset e r) (λ k m. frame-ext d e r k (λ j a b. same j (omega arith)))
 
-    lengths : length after ≡ length (writtenOver listed before)
-    lengths = len ∙ sym (length-append listed (drop (length listed) before) ∙ (let a = length-drop (length listed) before in let b = size in omega arith))
-
-    front : (i : ℕ) → i < 2 * n → getD (writtenOver listed before) i (pos 0) ≡ getD listed i (pos 0)
-    front i m = List·getD-append listed (drop (length listed) before) (pos 0) i (let b = size in omega arith)
-
-    inside : (i : ℕ) → i < 2 * n → getD after i (pos 0) ≡ getD listed i (pos 0)
-    inside i m = ⊎-elim even odd (order (i % 2) 1)
-      where
-        even : i % 2 < 1 → getD after i (pos 0) ≡ getD listed i (pos 0)
-        even z =
-            let e : i ≡ 2 * (i / 2) = omega arith in
-            ap (λ (j : ℕ). getD after j (pos 0)) e
-            ∙ dx (i / 2) (omega arith)
-            ∙ sym (offset-at n f (i / 2) (omega arith) .0)
-            ∙ ap (λ (j : ℕ). getD listed j (pos 0)) (sym e)
-
-        odd : 1 ≤ i % 2 → getD after i (pos 0) ≡ getD listed i (pos 0)
-        odd z =
-            let e : i ≡ 2 * (i / 2) + 1 = omega arith in
-            ap (λ (j : ℕ). getD after j (pos 0)) e
-            ∙ dy (i / 2) (omega arith)
-            ∙ sym (offset-at n f (i / 2) (omega arith) .1)
-            ∙ ap (λ (j : ℕ). getD listed j (pos 0)) (sym e)
-
-    outside : (i : ℕ) → 2 * n ≤ i → getD after i (pos 0) ≡ getD (writtenOver listed before) i (pos 0)
-    outside i l =
-        let m = length listed in
-        let e : m + (i - m) ≡ i = let b = size in omega arith in
-        excess i l
-        ∙ ap (λ (j : ℕ). getD before j (pos 0)) (sym e)
-        ∙ sym (getD-drop m before (i - m) (pos 0))
-        ∙ sym (getD-append-add listed (drop m before) (i - m) (pos 0))
-        ∙ ap (λ (j : ℕ). getD (writtenOver listed before) j (pos 0)) e
+pub count-list-ext : (n : ℕ) (f g : ℕ → Aligned) → ((k : ℕ) → k < n → f k ≡ g k) → countList n f ≡ countList n g
+unfolding countList
+count-list-ext zero f g same = refl
+count-list-ext (suc n) f g same =
+    ap₂ (λ (l : List ℕ) (a : Aligned). l ++ a .counts) (count-list-ext n f g (λ k l. same k (omega arith))) (same n (omega arith))
