@@ -13,7 +13,7 @@ use Rattle.rules.specs.Planes.{thresholdBit, exclusionBit, bitsBy, shift
 use Rattle.rules.specs.Bitmaps.{bitAt, packed}
 use Rattle.rules.specs.Differences.{Planes, difference}
 use Rattle.rules.specs.Levels.{wardOrder, byTolerance, Aligned, pair}
-use Rattle.rules.specs.Refusals.{greyRefusal, halveRefusal, thresholdRefusal, bitmapsRefusal, shiftRefusal, totalRefusal, differenceRefusal, pairRefusal, seriesRefusal}
+use Rattle.rules.specs.Refusals.{greyRefusal, halveRefusal, thresholdRefusal, bitmapsRefusal, shiftRefusal, totalRefusal, differenceRefusal, toleranceRefusal, pairRefusal, seriesRefusal}
 use Rattle.rules.specs.Series.{Settings}
 use Rattle.rules.specs.Answers.{written, counted, thresholded, bufferAfter}
 
@@ -71,7 +71,7 @@ differenceAnswer w h dx dy threshold1 exclusion1 threshold2 exclusion2 =
 -- Pair alignment of two rasters: the offset, and the counts in their buffer.
 abbrev pub pairNumber : ℕ → ℕ → ℕ → ℕ → ℕ → List ℕ → List ℕ → List ℕ → List ℕ → List ℕ → ℕ
 pairNumber w h s tolerance percentile first second counts grey words =
-    pairRefusal w h s tolerance percentile (length first) (length second) (length counts) (length grey) (length words)
+    pairRefusal w h s (toleranceRefusal tolerance) percentile (length first) (length second) (length counts) (length grey) (length words)
 
 -- "the pixel-by-pixel answer": from rasters, sizes and settings alone
 unfoldable pub pairResult : ℕ → ℕ → ℕ → ℕ → ℕ → List ℕ → List ℕ → Aligned
@@ -81,7 +81,7 @@ pairResult w h s tolerance percentile first second =
 -- Series alignment: offsets and counts in their buffers.
 abbrev pub seriesNumber : ℕ → ℕ → ℕ → ℕ → ℕ → ℕ → List ℕ → List ℕ → List ℤ → List ℕ → List ℕ → List ℕ → ℕ
 seriesNumber w h s tolerance n r percentiles rasters offsets counts grey words =
-    seriesRefusal w h s tolerance n r percentiles (length rasters) (length offsets) (length counts) (length grey) (length words)
+    seriesRefusal w h s (toleranceRefusal tolerance) n r percentiles (length rasters) (length offsets) (length counts) (length grey) (length words)
 
 abbrev pub settings : ℕ → ℕ → ℕ → ℕ → ℕ → ℕ → List ℕ → Settings
 settings w h s tolerance n r percentiles =
