@@ -3,11 +3,90 @@
 
 ghost use mathlib.Core.Path.{_≡_};
 ghost use Rattle.rules.specs.Bitmaps.{rowWords};
-ghost use Rattle.rules.specs.Refusals.{_when_, badSize, badPercentile, greyRefusal, halveRefusal, thresholdRefusal, bitmapsRefusal, shiftRefusal, totalRefusal, differenceRefusal};
+ghost use Rattle.rules.specs.Refusals.{_when_, _orElse_, badSize, badFrames, badPercentile, toleranceRefusal};
+ghost use Rattle.rules.specs.Refusals.{greyRefusal, halveRefusal, thresholdRefusal, bitmapsRefusal, shiftRefusal, totalRefusal, differenceRefusal};
 
-const MAX_SIDE: usize = 4096;
+pub const MAX_SIDE: usize = 4096;
 
-const MAX_TOLERANCE: u32 = 64;
+pub const MAX_HALVINGS: u32 = 8;
+
+pub const MAX_TOLERANCE: u32 = 64;
+
+pub const MAX_FRAMES: usize = 16;
+
+// What is wrong with a call. A header, sizes and halvings (1 to 3) are tested before, since other tests
+// work with them; the common area (13) after, since it has to be worked out.
+pub struct Faults {
+    pub small: bool, // 4: a side is too short for the halvings
+    pub excluded: u32, // the number that refuses the exclusion setting, in the place of 5; 0 where none does
+    pub frames: bool, // 6: the number of frames
+    pub reference: bool, // 7: the reference is no frame
+    pub percentile: bool, // 8: a percentile, or how many there are
+    pub length: bool, // 9: an input's length
+    pub room: bool, // 10: an output is short
+    pub memory: bool, // 11: work memory is short
+    pub offset: bool, // 12: an offset is far out
+    pub row: bool, // 14: a row past the last
+}
+
+pub const NONE: Faults = Faults {
+    small: false,
+    excluded: 0,
+    frames: false,
+    reference: false,
+    percentile: false,
+    length: false,
+    room: false,
+    memory: false,
+    offset: false,
+    row: false,
+};
+
+// The order of the refusals.
+pub fn lowest(f: Faults) -> u32
+    ensures { λ r. ⌜ r ≡ 4 when f .small
+        orElse f .excluded
+        orElse 6 when f .frames
+        orElse 7 when f .reference
+        orElse 8 when f .percentile
+        orElse 9 when f .length
+        orElse 10 when f .room
+        orElse 11 when f .memory
+        orElse 12 when f .offset
+        orElse 14 when f .row ⌝ }
+{
+    if f.small {
+        return 4;
+    }
+    if f.excluded != 0 {
+        return f.excluded;
+    }
+    if f.frames {
+        return 6;
+    }
+    if f.reference {
+        return 7;
+    }
+    if f.percentile {
+        return 8;
+    }
+    if f.length {
+        return 9;
+    }
+    if f.room {
+        return 10;
+    }
+    if f.memory {
+        return 11;
+    }
+    if f.offset {
+        return 12;
+    }
+    if f.row {
+        return 14;
+    }
+    0
+}
 
 // The words of a bitmap row. (Written so that no width overflows.)
 pub fn row_words(w: usize) -> usize
@@ -16,88 +95,76 @@ pub fn row_words(w: usize) -> usize
     w / 64 + (w % 64 + 63) / 64
 }
 
-pub fn size_refusal(w: usize, h: usize) -> u32
-    ensures { λ r. ⌜ r ≡ 2 when badSize w h ⌝ }
+pub fn bad_size(w: usize, h: usize) -> bool
+    ensures { λ r. ⌜ r ≡ badSize w h ⌝ }
 {
-    if w == 0 {
-        return 2;
-    }
-    if MAX_SIDE < w {
-        return 2;
-    }
-    if h == 0 {
-        return 2;
-    }
-    if MAX_SIDE < h {
-        return 2;
-    }
-    0
+    (w == 0) | (MAX_SIDE < w) | ((h == 0) | (MAX_SIDE < h))
 }
 
-pub fn percentile_refusal(percentile: u32) -> u32
-    ensures { λ r. ⌜ r ≡ 8 when badPercentile percentile ⌝ }
+pub fn bad_frames(n: usize) -> bool
+    ensures { λ r. ⌜ r ≡ badFrames n ⌝ }
 {
-    if percentile == 17 {
-        return 0;
+    (n == 0) | (MAX_FRAMES < n)
+}
+
+pub fn bad_percentile(percentile: u32) -> bool
+    ensures { λ r. ⌜ r ≡ badPercentile percentile ⌝ }
+{
+    !((percentile == 17) | ((percentile == 50) | (percentile == 83)))
+}
+
+pub fn tolerance_refusal(tolerance: u32) -> u32
+    ensures { λ r. ⌜ r ≡ toleranceRefusal tolerance ⌝ }
+{
+    if MAX_TOLERANCE < tolerance {
+        return 5;
     }
-    if percentile == 50 {
-        return 0;
-    }
-    if percentile == 83 {
-        return 0;
-    }
-    8
+    0
 }
 
 pub fn grey_refusal(w: usize, h: usize, raster: usize, grey: usize) -> u32
     ensures { λ r. ⌜ r ≡ greyRefusal w h raster grey ⌝ }
 {
-    if size_refusal(w, h) != 0 {
+    if bad_size(w, h) {
         return 2;
     }
-    if raster != 3 * (w * h) {
-        return 9;
-    }
-    if grey < w * h {
-        return 10;
-    }
-    0
+    let area = w * h;
+    let bytes = 3 * area;
+    lowest(Faults {
+        length: raster != bytes,
+        room: grey < area,
+        ..NONE
+    })
 }
 
 pub fn halve_refusal(w: usize, h: usize, grey: usize, out: usize) -> u32
     ensures { λ r. ⌜ r ≡ halveRefusal w h grey out ⌝ }
 {
-    if size_refusal(w, h) != 0 {
+    if bad_size(w, h) {
         return 2;
     }
-    if w < 2 {
-        return 4;
-    }
-    if h < 2 {
-        return 4;
-    }
-    if grey != w * h {
-        return 9;
-    }
-    if out < w / 2 * (h / 2) {
-        return 10;
-    }
-    0
+    let area = w * h;
+    let quarter = w / 2 * (h / 2);
+    lowest(Faults {
+        small: (w < 2) | (h < 2),
+        length: grey != area,
+        room: out < quarter,
+        ..NONE
+    })
 }
 
 pub fn threshold_refusal(w: usize, h: usize, percentile: u32, grey: usize) -> u32
     ensures { λ r. ⌜ r ≡ thresholdRefusal w h percentile grey ⌝ }
 {
-    if size_refusal(w, h) != 0 {
+    if bad_size(w, h) {
         return 2;
     }
-    if percentile_refusal(percentile) != 0 {
-        return 8;
-    }
-    if grey != w * h {
-        return 9;
-    }
-    0
+    let area = w * h;
+    lowest(Faults {
+        percentile: bad_percentile(percentile),
+        length: grey != area,
+        ..NONE
+    })
 }
 
 pub fn bitmaps_refusal(
@@ -110,51 +177,44 @@ pub fn bitmaps_refusal(
 ) -> u32
     ensures { λ r. ⌜ r ≡ bitmapsRefusal w h tolerance grey thresholds exclusions ⌝ }
 {
-    if size_refusal(w, h) != 0 {
+    if bad_size(w, h) {
         return 2;
     }
-    if MAX_TOLERANCE < tolerance {
-        return 5;
-    }
-    if grey != w * h {
-        return 9;
-    }
-    let n = row_words(w) * h;
-    if thresholds < n {
-        return 10;
-    }
-    if exclusions < n {
-        return 10;
-    }
-    0
+    let area = w * h;
+    let words = row_words(w) * h;
+    lowest(Faults {
+        excluded: tolerance_refusal(tolerance),
+        length: grey != area,
+        room: (thresholds < words) | (exclusions < words),
+        ..NONE
+    })
 }
 
 pub fn shift_refusal(w: usize, h: usize, bitmap: usize, out: usize) -> u32
     ensures { λ r. ⌜ r ≡ shiftRefusal w h bitmap out ⌝ }
 {
-    if size_refusal(w, h) != 0 {
+    if bad_size(w, h) {
         return 2;
     }
-    let n = row_words(w) * h;
-    if bitmap != n {
-        return 9;
-    }
-    if out < n {
-        return 10;
-    }
-    0
+    let words = row_words(w) * h;
+    lowest(Faults {
+        length: bitmap != words,
+        room: out < words,
+        ..NONE
+    })
 }
 
 pub fn total_refusal(w: usize, h: usize, bitmap: usize) -> u32
     ensures { λ r. ⌜ r ≡ totalRefusal w h bitmap ⌝ }
 {
-    if size_refusal(w, h) != 0 {
+    if bad_size(w, h) {
         return 2;
     }
-    if bitmap != row_words(w) * h {
-        return 9;
-    }
-    0
+    let words = row_words(w) * h;
+    lowest(Faults {
+        length: bitmap != words,
+        ..NONE
+    })
 }
 
 pub fn difference_refusal(
@@ -167,21 +227,13 @@ pub fn difference_refusal(
 ) -> u32
     ensures { λ r. ⌜ r ≡ differenceRefusal w h threshold1 exclusion1 threshold2 exclusion2 ⌝ }
 {
-    if size_refusal(w, h) != 0 {
+    if bad_size(w, h) {
         return 2;
     }
-    let n = row_words(w) * h;
-    if threshold1 != n {
-        return 9;
-    }
-    if exclusion1 != n {
-        return 9;
-    }
-    if threshold2 != n {
-        return 9;
-    }
-    if exclusion2 != n {
-        return 9;
-    }
-    0
+    let words = row_words(w) * h;
+    lowest(Faults {
+        length: (threshold1 != words)
+            | ((exclusion1 != words) | ((threshold2 != words) | (exclusion2 != words))),
+        ..NONE
+    })
 }

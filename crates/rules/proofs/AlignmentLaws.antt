@@ -1,5 +1,5 @@
 -- Laws of the refusal numbers of pair and series: what an accepted call knows, and the work memory that it needs.
-use mathlib.Core.Path.{_≡_, refl, sym, _∙_}
+use mathlib.Core.Path.{_≡_, refl}
 use mathlib.Core.Bool.{Bool, false, _||_}
 use mathlib.Core.List.{List, [], _∷_}
 use Prim.Native.Nat.{ℕ, zero, suc, _+_, _*_, _-_, _/_, _^_, _≤_, _<_}
@@ -10,67 +10,31 @@ use lib.ListN.{length, getD}
 use borrow.Author.Tests.{ltb-true, ltb-false, eqb-false, not-false}
 use Rattle.rules.specs.declared.Offset.{Offset}
 use Rattle.rules.specs.declared.Paired.{Paired}
-use Rattle.rules.specs.Limits.{maxTolerance, maxHalvings, maxFrames}
-use Rattle.rules.specs.Bitmaps.{rowWords}
-use Rattle.rules.specs.Refusals.{_when_, _orElse_, shapeRefusal, badSize, badHalvings, tooSmall, badTolerance, badFrames, badReference, badPercentile, someBadPercentile, badPercentiles, wrongLength, short, rasterLength, countsLength, levelPixels, greyNeeded, wordsNeeded, shortMemory, pairRefusal, seriesRefusal}
-use Rattle.rules.specs.Accepted.{ShapeOk, SettingsOk, PairOk, FramesOk, SeriesOk, SizeOk}
+use Rattle.rules.specs.Limits.{maxHalvings, maxFrames}
+use Rattle.rules.specs.Refusals.{_when_, _orElse_, shapeRefusal, badSize, badHalvings, tooSmall, badFrames, badReference, badPercentile, someBadPercentile, badPercentiles}
+use Rattle.rules.specs.Refusals.{wrongLength, short, rasterLength, countsLength, levelPixels, greyNeeded, wordsNeeded, shortMemory, pairRefusal, seriesRefusal}
+use Rattle.rules.specs.Accepted.{ShapeOk, PairOk, FramesOk, SeriesOk}
 use Rattle.rules.specs.Answers.{paired}
 use Rattle.rules.proofs.RefusalLaws.{when-no, orElse-no, or-no, size-ok, length-is, percentile-ok}
 
--- Conditions that pair and series share, or that a function of its own tests: their number, and the same before the rest.
-abbrev pub shapeThen : ℕ → ℕ → ℕ → ℕ → ℕ
-shapeThen w h s rest = 2 when badSize w h orElse 3 when badHalvings s orElse 4 when tooSmall w h s orElse rest
+-- A number k of three conditions, the first of a call's: where it is not 0 it is the call's, else the rest is.
+pub first-of-three : (k a b c rest : ℕ) → k ≡ a orElse b orElse c → (k ≡ 0 → ⊥) → k ≡ a orElse b orElse c orElse rest
+first-of-three k zero zero zero rest e l = absurd (l e)
+first-of-three k zero zero (suc c) rest e l = e
+first-of-three k zero (suc b) c rest e l = e
+first-of-three k (suc a) b c rest e l = e
 
-abbrev pub settingsNumber : ℕ → ℕ → ℕ → ℕ → ℕ
-settingsNumber w h s tolerance = shapeThen w h s (5 when badTolerance tolerance)
+pub none-of-three : (k a b c rest : ℕ) → k ≡ a orElse b orElse c → k ≡ 0 → rest ≡ a orElse b orElse c orElse rest
+none-of-three k zero zero zero rest e z = refl
+none-of-three k zero zero (suc c) rest e z = absurd (omega arith)
+none-of-three k zero (suc b) c rest e z = absurd (omega arith)
+none-of-three k (suc a) b c rest e z = absurd (omega arith)
 
-abbrev pub settingsThen : ℕ → ℕ → ℕ → ℕ → ℕ → ℕ
-settingsThen w h s tolerance rest = shapeThen w h s (5 when badTolerance tolerance orElse rest)
-
-abbrev pub framesNumber : ℕ → ℕ → ℕ
-framesNumber n r = 6 when badFrames n orElse 7 when badReference n r
-
-abbrev pub framesThen : ℕ → ℕ → ℕ → ℕ
-framesThen n r rest = 6 when badFrames n orElse 7 when badReference n r orElse rest
-
-orElse-assoc : (a b c : ℕ) → (a orElse b) orElse c ≡ a orElse b orElse c
-orElse-assoc zero b c = refl
-orElse-assoc (suc a) b c = refl
-
-shape-apart : (w h s rest : ℕ) → shapeRefusal w h s orElse rest ≡ shapeThen w h s rest
-shape-apart w h s rest = simp orElse-assoc
-
-settings-apart : (w h s tolerance rest : ℕ) → settingsNumber w h s tolerance orElse rest ≡ settingsThen w h s tolerance rest
-settings-apart w h s tolerance rest = simp orElse-assoc
-
-frames-apart : (n r rest : ℕ) → framesNumber n r orElse rest ≡ framesThen n r rest
-frames-apart n r rest = simp orElse-assoc
-
--- A function's result k that is such a number: where it is not 0 it stands before the rest, else the rest is left.
-first-is : (k a b : ℕ) → k ≡ a → (k ≡ 0 → ⊥) → k ≡ a orElse b
-first-is k zero b e l = absurd (l e)
-first-is k (suc a) b e l = e
-
-first-none : (k a b : ℕ) → k ≡ a → k ≡ 0 → a orElse b ≡ b
-first-none k a b e z = rw (sym e ∙ z)
-
-pub shape-first : (w h s k rest : ℕ) → k ≡ shapeRefusal w h s → (k ≡ 0 → ⊥) → k ≡ shapeThen w h s rest
-shape-first w h s k rest e l = first-is k (shapeRefusal w h s) rest e l ∙ shape-apart w h s rest
-
-pub shape-pass : (w h s k : ℕ) → k ≡ shapeRefusal w h s → k ≡ 0 → (rest : ℕ) → shapeThen w h s rest ≡ rest
-shape-pass w h s k e z rest = sym (shape-apart w h s rest) ∙ first-none k (shapeRefusal w h s) rest e z
-
-pub settings-first : (w h s tolerance k rest : ℕ) → k ≡ settingsNumber w h s tolerance → (k ≡ 0 → ⊥) → k ≡ settingsThen w h s tolerance rest
-settings-first w h s tolerance k rest e l = first-is k (settingsNumber w h s tolerance) rest e l ∙ settings-apart w h s tolerance rest
-
-pub settings-pass : (w h s tolerance k : ℕ) → k ≡ settingsNumber w h s tolerance → k ≡ 0 → (rest : ℕ) → settingsThen w h s tolerance rest ≡ rest
-settings-pass w h s tolerance k e z rest = sym (settings-apart w h s tolerance rest) ∙ first-none k (settingsNumber w h s tolerance) rest e z
-
-pub frames-first : (n r k rest : ℕ) → k ≡ framesNumber n r → (k ≡ 0 → ⊥) → k ≡ framesThen n r rest
-frames-first n r k rest e l = first-is k (framesNumber n r) rest e l ∙ frames-apart n r rest
-
-pub frames-pass : (n r k : ℕ) → k ≡ framesNumber n r → k ≡ 0 → (rest : ℕ) → framesThen n r rest ≡ rest
-frames-pass n r k e z rest = sym (frames-apart n r rest) ∙ first-none k (framesNumber n r) rest e z
+three-no : (a b c rest : ℕ) → a orElse b orElse c orElse rest ≡ 0 → (a orElse b orElse c ≡ 0) × (rest ≡ 0)
+three-no zero zero zero rest e = (refl, e)
+three-no zero zero (suc c) rest e = absurd (omega arith)
+three-no zero (suc b) c rest e = absurd (omega arith)
+three-no (suc a) b c rest e = absurd (omega arith)
 
 pub shape-ok : (w h s : ℕ) → shapeRefusal w h s ≡ 0 → ShapeOk w h s
 unfolding badHalvings tooSmall
@@ -87,19 +51,6 @@ shape-ok w h s e =
       wide = ltb-false w least (t .0);
       high = ltb-false h least (t .1);
     }
-
-settings-ok : (w h s tolerance : ℕ) → settingsNumber w h s tolerance ≡ 0 → SettingsOk w h s tolerance
-unfolding badTolerance
-settings-ok w h s tolerance e =
-    let n5 : ℕ = 5 when badTolerance tolerance in
-    let p = orElse-no (shapeRefusal w h s) n5 (shape-apart w h s n5 ∙ e) in
-    record {
-      shape = shape-ok w h s (p .0);
-      limit = ltb-false maxTolerance tolerance (when-no 5 (badTolerance tolerance) (omega arith) (p .1));
-    }
-
-pub settings-told : (w h s tolerance k : ℕ) → k ≡ settingsNumber w h s tolerance → k ≡ 0 → SettingsOk w h s tolerance
-settings-told w h s tolerance k e z = settings-ok w h s tolerance (sym e ∙ z)
 
 -- The pixels of all levels: a level and those below it, at most twice the first.
 pub level-pixels-step : (s w h : ℕ) → 0 < s → levelPixels s w h ≡ w * h + levelPixels (s - 1) (w / 2) (h / 2)
@@ -134,11 +85,11 @@ memory-ok s w h grey words e =
     let p = or-no g v (when-no 11 (g || v) (omega arith) e) in
     (ltb-false grey (greyNeeded s w h) (p .0), ltb-false words (wordsNeeded w h) (p .1))
 
-pub pair-ok : (w h s tolerance percentile first second counts grey words : ℕ)
-    → pairRefusal w h s tolerance percentile first second counts grey words ≡ 0
-    → PairOk w h s tolerance percentile first second counts grey words
+pub pair-ok : (w h s excluded percentile first second counts grey words : ℕ)
+    → pairRefusal w h s excluded percentile first second counts grey words ≡ 0
+    → PairOk w h s percentile first second counts grey words
 unfolding pairRefusal
-pair-ok w h s tolerance percentile first second counts grey words e =
+pair-ok w h s excluded percentile first second counts grey words e =
     let wrong1 : Bool = wrongLength (rasterLength w h) first in
     let wrong2 : Bool = wrongLength (rasterLength w h) second in
     let n11 : ℕ = 11 when shortMemory s w h grey words in
@@ -146,17 +97,15 @@ pair-ok w h s tolerance percentile first second counts grey words e =
     let n9 : ℕ = 9 when (wrong1 || wrong2) in
     let n8 : ℕ = 8 when badPercentile percentile in
     let rest : ℕ = n8 orElse n9 orElse n10 orElse n11 in
-    let a = orElse-no (settingsNumber w h s tolerance) rest (settings-apart w h s tolerance rest ∙ e) in
-    let b = orElse-no n8 (n9 orElse n10 orElse n11) (a .1) in
+    let a = three-no (2 when badSize w h) (3 when badHalvings s) (4 when tooSmall w h s) (excluded orElse rest) e in
+    let b = orElse-no n8 (n9 orElse n10 orElse n11) (orElse-no excluded rest (a .1) .1) in
     let c = orElse-no n9 (n10 orElse n11) (b .1) in
     let d = orElse-no n10 n11 (c .1) in
-    let k = settings-ok w h s tolerance (a .0) in
     let p = percentile-ok percentile (when-no 8 (badPercentile percentile) (omega arith) (b .0)) in
     let q = or-no wrong1 wrong2 (when-no 9 (wrong1 || wrong2) (omega arith) (c .0)) in
     let m = memory-ok s w h grey words (d .1) in
     record {
-      shape = k .shape;
-      limit = k .limit;
+      shape = shape-ok w h s (a .0);
       least = p .0;
       most = p .1;
       exact1 = length-is (rasterLength w h) first (q .0);
@@ -166,10 +115,10 @@ pair-ok w h s tolerance percentile first second counts grey words e =
       bitmaps = m .1;
     }
 
-frames-ok : (n r : ℕ) → framesNumber n r ≡ 0 → FramesOk n r
+pub frames-ok : (excluded n r : ℕ) → excluded orElse 6 when badFrames n orElse 7 when badReference n r ≡ 0 → FramesOk n r
 unfolding badFrames badReference
-frames-ok n r e =
-    let p = orElse-no (6 when badFrames n) (7 when badReference n r) e in
+frames-ok excluded n r e =
+    let p = orElse-no (6 when badFrames n) (7 when badReference n r) (orElse-no excluded (6 when badFrames n orElse 7 when badReference n r) e .1) in
     let q = or-no (eqb n 0) (ltb maxFrames n) (when-no 6 (badFrames n) (omega arith) (p .0)) in
     let z = eqb-false n 0 (q .0) in
     record {
@@ -178,9 +127,6 @@ frames-ok n r e =
       reference = ltb-true r n (not-false (ltb r n) (when-no 7 (badReference n r) (omega arith) (p .1)));
     }
 
-pub frames-told : (n r k : ℕ) → k ≡ framesNumber n r → k ≡ 0 → FramesOk n r
-frames-told n r k e z = frames-ok n r (sym e ∙ z)
-
 -- no percentile of a list is bad
 percentiles-ok : (ps : List ℕ) → someBadPercentile ps ≡ false → (k : ℕ) → k < length ps → (1 ≤ getD ps k 0) × (getD ps k 0 ≤ 99)
 unfolding someBadPercentile
@@ -188,11 +134,11 @@ percentiles-ok [] e k l = absurd (omega arith)
 percentiles-ok (p ∷ ps) e zero l = percentile-ok p (or-no (badPercentile p) (someBadPercentile ps) e .0)
 percentiles-ok (p ∷ ps) e (suc k) l = percentiles-ok ps (or-no (badPercentile p) (someBadPercentile ps) e .1) k (le-of-suc-le-suc l)
 
-pub series-ok : (w h s tolerance n r : ℕ) (ps : List ℕ) (rasters offsets counts grey words : ℕ)
-    → seriesRefusal w h s tolerance n r ps rasters offsets counts grey words ≡ 0
-    → SeriesOk w h s tolerance n r ps rasters offsets counts grey words
+pub series-ok : (w h s excluded n r : ℕ) (ps : List ℕ) (rasters offsets counts grey words : ℕ)
+    → seriesRefusal w h s excluded n r ps rasters offsets counts grey words ≡ 0
+    → SeriesOk w h s n r ps rasters offsets counts grey words
 unfolding seriesRefusal badPercentiles
-series-ok w h s tolerance n r ps rasters offsets counts grey words e =
+series-ok w h s excluded n r ps rasters offsets counts grey words e =
     let short1 : Bool = short (2 * n) offsets in
     let short2 : Bool = short (countsLength s * (n - 1)) counts in
     let wrong : Bool = wrongLength (n - 1) (length ps) in
@@ -201,21 +147,20 @@ series-ok w h s tolerance n r ps rasters offsets counts grey words e =
     let n9 : ℕ = 9 when wrongLength (n * rasterLength w h) rasters in
     let n8 : ℕ = 8 when (wrong || someBadPercentile ps) in
     let rest : ℕ = n8 orElse n9 orElse n10 orElse n11 in
-    let later : ℕ = framesThen n r rest in
-    let a = orElse-no (settingsNumber w h s tolerance) later (settings-apart w h s tolerance later ∙ e) in
-    let b = orElse-no (framesNumber n r) rest (frames-apart n r rest ∙ a .1) in
+    let n7 : ℕ = 7 when badReference n r in
+    let n6 : ℕ = 6 when badFrames n in
+    let a = three-no (2 when badSize w h) (3 when badHalvings s) (4 when tooSmall w h s) (excluded orElse n6 orElse n7 orElse rest) e in
+    let b = three-no excluded n6 n7 rest (a .1) in
     let c = orElse-no n8 (n9 orElse n10 orElse n11) (b .1) in
     let d = orElse-no n9 (n10 orElse n11) (c .1) in
     let g = orElse-no n10 n11 (d .1) in
-    let k = settings-ok w h s tolerance (a .0) in
-    let f = frames-ok n r (b .0) in
+    let f = frames-ok excluded n r (b .0) in
     let p = or-no wrong (someBadPercentile ps) (when-no 8 (wrong || someBadPercentile ps) (omega arith) (c .0)) in
     let many : length ps ≡ n - 1 = length-is (n - 1) (length ps) (p .0) in
     let q = or-no short1 short2 (when-no 10 (short1 || short2) (omega arith) (g .0)) in
     let m = memory-ok s w h grey words (g .1) in
     record {
-      shape = k .shape;
-      limit = k .limit;
+      shape = shape-ok w h s (a .0);
       frames = (f .least, f .most);
       reference = f .reference;
       percentiles = many;

@@ -2,7 +2,7 @@
 use mathlib.Core.Path.{_≡_, refl, sym, _∙_}
 use mathlib.Core.Bool.{Bool, true, false, _||_, true≢false}
 use mathlib.Core.List.{List}
-use Prim.Native.Nat.{ℕ, zero, suc, _*_, _/_, _≤_, _<_}
+use Prim.Native.Nat.{ℕ, zero, suc, _/_, _≤_, _<_}
 use native.Mathlib.Nat.{mul-le-mul}
 use native.Mathlib.Omega.{arith}
 use lib.Dec.{ltb, eqb}
@@ -12,7 +12,8 @@ use Rattle.rules.specs.declared.Counted.{Counted}
 use Rattle.rules.specs.declared.Thresholded.{Thresholded}
 use Rattle.rules.specs.Limits.{maxSide, maxTolerance}
 use Rattle.rules.specs.Bitmaps.{rowWords}
-use Rattle.rules.specs.Refusals.{_when_, _orElse_, badSide, badSize, unhalvable, badTolerance, badPercentile, wrongLength, short, rasterLength, greyLength, bitmapLength, greyRefusal, halveRefusal, thresholdRefusal, bitmapsRefusal, shiftRefusal, totalRefusal, differenceRefusal}
+use Rattle.rules.specs.Refusals.{_when_, _orElse_, badSide, badSize, unhalvable, badTolerance, badPercentile, wrongLength, short, rasterLength, greyLength, bitmapLength}
+use Rattle.rules.specs.Refusals.{greyRefusal, halveRefusal, thresholdRefusal, bitmapsRefusal, shiftRefusal, totalRefusal, differenceRefusal}
 use Rattle.rules.specs.Accepted.{SizeOk, GreyOk, HalveOk, ThresholdOk, BitmapsOk, ShiftOk, TotalOk, DifferenceOk}
 use Rattle.rules.specs.Answers.{written, counted, thresholded, bufferAfter}
 
@@ -21,17 +22,15 @@ pub when-no : (n : ℕ) (c : Bool) → 0 < n → n when c ≡ 0 → c ≡ false
 when-no n true l e = absurd (omega arith)
 when-no n false l e = refl
 
--- A number that is given: its condition applies.
-pub when-yes : (n : ℕ) (c : Bool) → (n when c ≡ 0 → ⊥) → c ≡ true
-when-yes n true l = refl
-when-yes n false l = absurd (l refl)
+-- Nothing stands after the last condition.
+pub orElse-none : (a : ℕ) → a orElse 0 ≡ a
+orElse-none zero = refl
+orElse-none (suc a) = refl
 
--- The same of a function's result n that is such a number.
-pub told-yes : (k n : ℕ) (c : Bool) → n ≡ k when c → (n ≡ 0 → ⊥) → c ≡ true
-told-yes k n c e l = when-yes k c (λ z. l (e ∙ z))
-
-pub told-no : (k n : ℕ) (c : Bool) → 0 < k → n ≡ k when c → n ≡ 0 → c ≡ false
-told-no k n c l e z = when-no k c l (sym e ∙ z)
+-- A number that is given stands before the rest.
+pub orElse-first : (a b : ℕ) → (a ≡ 0 → ⊥) → a ≡ a orElse b
+orElse-first zero b l = absurd (l refl)
+orElse-first (suc a) b l = refl
 
 pub orElse-no : (a b : ℕ) → a orElse b ≡ 0 → (a ≡ 0) × (b ≡ 0)
 orElse-no zero b e = (refl, e)
@@ -65,8 +64,9 @@ size-ok w h e =
       bitmap = mul-le-mul n (b .1);
     }
 
-pub size-told : (w h n : ℕ) → n ≡ 2 when badSize w h → n ≡ 0 → SizeOk w h
-size-told w h n e z = size-ok w h (sym e ∙ z)
+-- the same from a function's result t that is the test
+pub size-known : (w h : ℕ) (t : Bool) → t ≡ badSize w h → t ≡ false → SizeOk w h
+size-known w h t e z = size-ok w h (rw (sym e ∙ z))
 
 pub length-is : (needed length : ℕ) → wrongLength needed length ≡ false → length ≡ needed
 length-is needed length e = eqb-true length needed (not-false (eqb length needed) e)

@@ -64,13 +64,8 @@ pub record ShapeOk (w h s : ℕ) : Type 0 where
   pub wide : 2 ^ (s + 2) ≤ w
   pub high : 2 ^ (s + 2) ≤ h
 
-pub record SettingsOk (w h s tolerance : ℕ) : Type 0 where
+pub record PairOk (w h s percentile first second counts grey words : ℕ) : Type 0 where
   pub shape : ShapeOk w h s
-  pub limit : tolerance ≤ 64
-
-pub record PairOk (w h s tolerance percentile first second counts grey words : ℕ) : Type 0 where
-  pub shape : ShapeOk w h s
-  pub limit : tolerance ≤ 64
   pub least : 1 ≤ percentile
   pub most : percentile ≤ 99
   pub exact1 : first ≡ 3 * (w * h)
@@ -84,9 +79,8 @@ pub record FramesOk (n r : ℕ) : Type 0 where
   pub most : n ≤ 16
   pub reference : r < n
 
-pub record SeriesOk (w h s tolerance n r : ℕ) (ps : List ℕ) (rasters offsets counts grey words : ℕ) : Type 0 where
+pub record SeriesOk (w h s n r : ℕ) (ps : List ℕ) (rasters offsets counts grey words : ℕ) : Type 0 where
   pub shape : ShapeOk w h s
-  pub limit : tolerance ≤ 64
   pub frames : (0 < n) × (n ≤ 16)
   pub reference : r < n
   pub percentiles : length ps ≡ n - 1

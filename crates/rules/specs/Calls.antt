@@ -17,8 +17,8 @@ use Rattle.rules.specs.Thresholds.{threshold}
 use Rattle.rules.specs.Planes.{thresholdBit, exclusionBit, bitsBy, shifted, total}
 use Rattle.rules.specs.Bitmaps.{bitAt, packed}
 use Rattle.rules.specs.Differences.{Planes, difference}
-use Rattle.rules.specs.Levels.{toleranceIn, Aligned, alignedBy}
-use Rattle.rules.specs.Refusals.{greyRefusal, halveRefusal, thresholdRefusal, bitmapsRefusal, shiftRefusal, totalRefusal, differenceRefusal, pairRefusal, seriesRefusal}
+use Rattle.rules.specs.Levels.{Aligned, alignedBy}
+use Rattle.rules.specs.Refusals.{greyRefusal, halveRefusal, thresholdRefusal, bitmapsRefusal, shiftRefusal, totalRefusal, differenceRefusal, toleranceRefusal, pairRefusal, seriesRefusal}
 use Rattle.rules.specs.Series.{Settings, Answer, seriesAnswer}
 use Rattle.rules.specs.Answers.{written, counted, thresholded, paired, bufferAfter}
 
@@ -77,9 +77,13 @@ differenceAnswer w h dx dy threshold1 exclusion1 threshold2 exclusion2 =
 abbrev pub toleranceSetup : ℕ → ℕ → ℕ → ℕ → ℕ → Setup
 toleranceSetup w h s tolerance percentile = record { w = w; h = h; s = s; percentile = percentile; exclusion = Exclusion.Tolerance tolerance }
 
+-- 5, or the number of another rule's limit in its place
+abbrev pub exclusionRefusal : Exclusion → ℕ
+exclusionRefusal (Exclusion.Tolerance tolerance) = toleranceRefusal tolerance
+
 abbrev pub pairNumber : Setup → List ℕ → List ℕ → List ℕ → List ℕ → List ℕ → ℕ
 pairNumber S first second counts grey words =
-    pairRefusal (S .w) (S .h) (S .s) (toleranceIn (S .exclusion)) (S .percentile) (length first) (length second) (length counts) (length grey) (length words)
+    pairRefusal (S .w) (S .h) (S .s) (exclusionRefusal (S .exclusion)) (S .percentile) (length first) (length second) (length counts) (length grey) (length words)
 
 -- "the pixel-by-pixel answer": from rasters, sizes and settings alone
 unfoldable pub pairResult : List Offset → Setup → List ℕ → List ℕ → Aligned
@@ -103,7 +107,7 @@ toleranceSettings w h s tolerance n r percentiles =
 
 abbrev pub seriesNumber : Settings → List ℕ → List ℤ → List ℕ → List ℕ → List ℕ → ℕ
 seriesNumber S rasters offsets counts grey words =
-    seriesRefusal (S .w) (S .h) (S .halvings) (toleranceIn (S .exclusion)) (S .frames) (S .reference) (S .percentiles)
+    seriesRefusal (S .w) (S .h) (S .halvings) (exclusionRefusal (S .exclusion)) (S .frames) (S .reference) (S .percentiles)
     (length rasters) (length offsets) (length counts) (length grey) (length words)
 
 -- what a series call with this refusal number and this result leaves

@@ -42,6 +42,10 @@ unhalvable w h = ltb w 2 || ltb h 2
 unfoldable pub badTolerance : ℕ → Bool
 badTolerance tolerance = ltb maxTolerance tolerance
 
+-- the number that refuses a tolerance, 0 where none does
+abbrev pub toleranceRefusal : ℕ → ℕ
+toleranceRefusal tolerance = 5 when badTolerance tolerance
+
 -- 6. "N is 0 or above 16."
 unfoldable pub badFrames : ℕ → Bool
 badFrames n = eqb n 0 || ltb maxFrames n
@@ -149,23 +153,24 @@ differenceRefusal w h threshold1 exclusion1 threshold2 exclusion2 =
 abbrev pub shapeRefusal : ℕ → ℕ → ℕ → ℕ
 shapeRefusal w h s = 2 when badSize w h orElse 3 when badHalvings s orElse 4 when tooSmall w h s
 
+-- `excluded` is the number that refuses the exclusion setting, 0 where none does.
 unfoldable pub pairRefusal : ℕ → ℕ → ℕ → ℕ → ℕ → ℕ → ℕ → ℕ → ℕ → ℕ → ℕ
-pairRefusal w h s tolerance percentile first second counts grey words =
+pairRefusal w h s excluded percentile first second counts grey words =
     2 when badSize w h
     orElse 3 when badHalvings s
     orElse 4 when tooSmall w h s
-    orElse 5 when badTolerance tolerance
+    orElse excluded
     orElse 8 when badPercentile percentile
     orElse 9 when (wrongLength (rasterLength w h) first || wrongLength (rasterLength w h) second)
     orElse 10 when short (countsLength s) counts
     orElse 11 when shortMemory s w h grey words
 
 unfoldable pub seriesRefusal : ℕ → ℕ → ℕ → ℕ → ℕ → ℕ → List ℕ → ℕ → ℕ → ℕ → ℕ → ℕ → ℕ
-seriesRefusal w h s tolerance n r percentiles rasters offsets counts grey words =
+seriesRefusal w h s excluded n r percentiles rasters offsets counts grey words =
     2 when badSize w h
     orElse 3 when badHalvings s
     orElse 4 when tooSmall w h s
-    orElse 5 when badTolerance tolerance
+    orElse excluded
     orElse 6 when badFrames n
     orElse 7 when badReference n r
     orElse 8 when badPercentiles n percentiles

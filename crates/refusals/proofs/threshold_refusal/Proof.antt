@@ -1,68 +1,35 @@
--- Each return rewrites with the tests on the way there; a product fits since the sizes are within their limits.
-use borrow.Author.Tests.{eq-eqb, ne-eqb}
-use Rattle.rules.specs.Refusals.{thresholdRefusal, badSize, badPercentile}
-use Rattle.rules.proofs.RefusalLaws.{told-yes, told-no, size-told}
+-- Sizes within their limits keep the products from overflowing; the flags are the definition's conditions.
+use mathlib.Core.Path.{sym, _∙_}
 use native.Mathlib.Omega.{arith}
 use borrow.Author.Needs.{needs}
+use Rattle.rules.specs.Refusals.{thresholdRefusal}
+use Rattle.rules.proofs.RefusalLaws.{orElse-none, size-known}
 use Rattle.refusals.proofs.threshold_refusal.Statement.{statement}
 use Rattle.refusals.proofs.threshold_refusal.Tie as tie
 
-size-refusal-requires : tie.Need-size-refusal-requires
-size-refusal-requires c κs = search needs
+bad-size-requires : tie.Need-bad-size-requires
+bad-size-requires c κs = search needs
 
 returns : tie.Need-returns
 unfolding thresholdRefusal
-returns c =
-    let a = c .before .before .args in
-    simp
-    (told-yes 2 _ (badSize (a .w) (a .h)) (c .before .size-refusal .ensures) (c .if1 .taken))
+returns c = simp (sym (c .before .bad-size .ensures) ∙ c .if1 .taken)
 
-percentile-refusal-requires : tie.Need-percentile-refusal-requires
-percentile-refusal-requires c κs = search needs
+mul-area : tie.Need-mul-area
+mul-area c = let k = size-known _ _ _ (c .before .bad-size .ensures) (c .if1 .left) in omega arith
+
+bad-percentile-requires : tie.Need-bad-percentile-requires
+bad-percentile-requires c κs = search needs
+
+lowest-requires : tie.Need-lowest-requires
+lowest-requires c κs = search needs
 
 returns-2 : tie.Need-returns-2
 unfolding thresholdRefusal
 returns-2 c =
-    let a = c .before .before .before .before .args in
-    simp (
-      told-no 2 _ (badSize (a .w) (a .h)) (omega arith) (c .before .before .before .size-refusal .ensures) (c .before .before .if1 .left),
-      told-yes 8 _ (badPercentile (a .percentile)) (c .before .percentile-refusal .ensures) (c .if2 .taken),
-    )
-
-mul-if3 : tie.Need-mul-if3
-mul-if3 c =
-    let a = c .before .before .before .before .args in
-    let k = size-told (a .w) (a .h) _ (c .before .before .before .size-refusal .ensures) (c .before .before .if1 .left) in
-    omega arith
-
-returns-3 : tie.Need-returns-3
-unfolding thresholdRefusal
-returns-3 c =
-    let a = c .before .before .before .before .before .args in
-    simp (
-      told-no 2 _ (badSize (a .w) (a .h)) (omega arith) (c .before .before .before .before .size-refusal .ensures) (c .before .before .before .if1 .left),
-      told-no 8 _ (badPercentile (a .percentile)) (omega arith) (c .before .before .percentile-refusal .ensures) (c .before .if2 .left),
-      ne-eqb _ _ (c .if3 .taken),
-    )
-
-returns-4 : tie.Need-returns-4
-unfolding thresholdRefusal
-returns-4 c =
-    let a = c .before .before .before .before .before .args in
-    simp (
-      told-no 2 _ (badSize (a .w) (a .h)) (omega arith) (c .before .before .before .before .size-refusal .ensures) (c .before .before .before .if1 .left),
-      told-no 8 _ (badPercentile (a .percentile)) (omega arith) (c .before .before .percentile-refusal .ensures) (c .before .if2 .left),
-      eq-eqb _ _ (c .if3 .left),
-    )
+    let e = c .before .before in
+    simp (sym (e .before .bad-size .ensures) ∙ e .if1 .left, ← c .before .bad-percentile .ensures) (simp orElse-none at (c .lowest .ensures))
 
 pub threshold-refusal-spec : {M : Type 1} → statement M
 threshold-refusal-spec =
     tie.close
-    (tie.spec
-    size-refusal-requires
-    returns
-    percentile-refusal-requires
-    returns-2
-    mul-if3
-    returns-3
-    returns-4)
+    (tie.spec bad-size-requires returns mul-area bad-percentile-requires lowest-requires returns-2)

@@ -1,50 +1,37 @@
--- Each return rewrites with the tests on the way there; a product fits since the sizes are within their limits.
-use borrow.Author.Tests.{eq-eqb, ne-eqb}
-use Rattle.rules.specs.Refusals.{totalRefusal, badSize}
-use Rattle.rules.proofs.RefusalLaws.{told-yes, told-no, size-told}
+-- Sizes within their limits keep the products from overflowing; the flags are the definition's conditions.
+use mathlib.Core.Path.{sym, _∙_}
 use native.Mathlib.Omega.{arith}
 use borrow.Author.Needs.{needs}
+use Rattle.rules.specs.Refusals.{totalRefusal}
+use Rattle.rules.proofs.RefusalLaws.{orElse-none, size-known}
 use Rattle.refusals.proofs.total_refusal.Statement.{statement}
 use Rattle.refusals.proofs.total_refusal.Tie as tie
 
-size-refusal-requires : tie.Need-size-refusal-requires
-size-refusal-requires c κs = search needs
+bad-size-requires : tie.Need-bad-size-requires
+bad-size-requires c κs = search needs
 
 returns : tie.Need-returns
 unfolding totalRefusal
-returns c =
-    let a = c .before .before .args in
-    simp
-    (told-yes 2 _ (badSize (a .w) (a .h)) (c .before .size-refusal .ensures) (c .if1 .taken))
+returns c = simp (sym (c .before .bad-size .ensures) ∙ c .if1 .taken)
 
 row-words-requires : tie.Need-row-words-requires
 row-words-requires c κs = search needs
 
-mul-if2 : tie.Need-mul-if2
-mul-if2 c =
-    let a = c .before .before .before .args in
-    let k = size-told (a .w) (a .h) _ (c .before .before .size-refusal .ensures) (c .before .if1 .left) in
+mul-words : tie.Need-mul-words
+mul-words c =
+    let k = size-known _ _ _ (c .before .before .bad-size .ensures) (c .before .if1 .left) in
     rw (c .row-words .ensures) (omega arith)
+
+lowest-requires : tie.Need-lowest-requires
+lowest-requires c κs = search needs
 
 returns-2 : tie.Need-returns-2
 unfolding totalRefusal
 returns-2 c =
-    let a = c .before .before .before .before .args in
-    simp (
-      told-no 2 _ (badSize (a .w) (a .h)) (omega arith) (c .before .before .before .size-refusal .ensures) (c .before .before .if1 .left),
-      ne-eqb _ _ (rw (c .before .row-words .ensures) at (c .if2 .taken)),
-    )
-
-returns-3 : tie.Need-returns-3
-unfolding totalRefusal
-returns-3 c =
-    let a = c .before .before .before .before .args in
-    simp (
-      told-no 2 _ (badSize (a .w) (a .h)) (omega arith) (c .before .before .before .size-refusal .ensures) (c .before .before .if1 .left),
-      eq-eqb _ _ (rw (c .before .row-words .ensures) at (c .if2 .left)),
-    )
+    let e = c .before .before in
+    simp (sym (e .before .bad-size .ensures) ∙ e .if1 .left, ← c .before .row-words .ensures) (simp orElse-none at (c .lowest .ensures))
 
 pub total-refusal-spec : {M : Type 1} → statement M
 total-refusal-spec =
     tie.close
-    (tie.spec size-refusal-requires returns row-words-requires mul-if2 returns-2 returns-3)
+    (tie.spec bad-size-requires returns row-words-requires mul-words lowest-requires returns-2)
