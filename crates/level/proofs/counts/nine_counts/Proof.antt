@@ -5,9 +5,8 @@ use lib.IntN.{ℤ}
 use lib.ListN.{length}
 use Rattle.rules.specs.Bitmaps.{rowWords}
 use Rattle.rules.specs.Buffers.{RowAt}
-use Rattle.rules.proofs.FrameLaws.{row-none}
+use Rattle.rules.proofs.FrameLaws.{row-none, row-join}
 use Rattle.rules.specs.Levels.{candidateAt}
-use Rattle.frame.proofs.PlaceLaws.{row-join}
 use Rattle.level.specs.Places.{KeptTo, SlidAt, wordsCount}
 use Rattle.level.specs.Choices.{nineOf, columnOf}
 use Rattle.level.proofs.CountLaws.{candidate-dx}
