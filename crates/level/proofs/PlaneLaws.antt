@@ -26,8 +26,10 @@ use Rattle.rules.proofs.DifferenceLaws.{difference-ext}
 use Rattle.words.proofs.BitLaws.{word-bit}
 use Rattle.threshold.specs.Flat.{thresholdIn}
 use Rattle.threshold.proofs.FlatLaws.{threshold-flat}
-use Rattle.pack.specs.Outside.{outsideBit, outsidePlane, outsideWord}
-use Rattle.pack.proofs.OutsideLaws.{outside-lt, threshold-plane, exclusion-plane}
+use Rattle.flags.specs.Flags.{outsideBit}
+use Rattle.pack.specs.Outside.{outsidePlane, outsideWord}
+use Rattle.flags.proofs.FlagLaws.{outside-lt}
+use Rattle.pack.proofs.OutsideLaws.{threshold-plane, exclusion-plane}
 use Rattle.level.specs.Places.{planesAt, BothAt, PackedAt, wordsCount}
 use Rattle.rules.proofs.PairLaws.{threshold-ext}
 
