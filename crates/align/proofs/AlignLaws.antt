@@ -15,11 +15,10 @@ use Rattle.rules.specs.Greys.{halved}
 use Rattle.rules.specs.Levels.{still, added, wardOrder, byTolerance, chosen, Aligned, level, countAt, pair, Near}
 use Rattle.rules.specs.Bitmaps.{rowWords}
 use Rattle.rules.specs.Buffers.{RowAt, FrameAt}
-use Rattle.rules.proofs.FrameLaws.{pixel-fits, row-ext}
+use Rattle.rules.proofs.FrameLaws.{pixel-fits, row-ext, row-join}
 use Rattle.rules.proofs.OffsetLaws.{near-add, near-more, near-pair, near-ward}
 use Rattle.rules.proofs.PairLaws.{halved-ext, count-ext, pair-ext}
 use Rattle.rules.proofs.AlignmentLaws.{level-pixels-step, level-pixels-at}
-use Rattle.frame.proofs.PlaceLaws.{row-join}
 use Rattle.level.specs.Sides.{Sides}
 use Rattle.level.specs.Choices.{nineOf, Settled}
 use Rattle.align.specs.Aligns.{Frames, Aligns, alignedIn, countOf}

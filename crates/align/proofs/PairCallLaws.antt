@@ -16,7 +16,7 @@ use Rattle.rules.specs.Buffers.{RowAt}
 use Rattle.rules.proofs.FrameLaws.{pixel-fits}
 use Rattle.rules.proofs.PairLaws.{pair-ext}
 use Rattle.rules.specs.Accepted.{PairOk}
-use Rattle.frame.specs.Places.{greyAt}
+use Rattle.grey.specs.GreyPlaces.{greyAt}
 use Rattle.align.specs.Aligns.{Frames, Aligns, alignedIn}
 use Rattle.align.proofs.AlignLaws.{counts-length}
 

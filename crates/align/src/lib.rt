@@ -3,7 +3,7 @@
 pub mod pairs;
 
 use count::ones::ONES;
-use frame::conversion::convert;
+use grey::conversion::convert;
 use lending::pair_refusal;
 use pairs::align_frames;
 use rules::Paired;

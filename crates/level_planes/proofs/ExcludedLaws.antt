@@ -6,7 +6,7 @@ use Rattle.rules.specs.declared.Exclusion.{Exclusion}
 use Rattle.rules.specs.Limits.{maxGrey}
 use Rattle.rules.specs.Planes.{exclusionBit}
 use Rattle.rules.specs.Levels.{toleranceIn}
-use Rattle.pack.specs.Outside.{outsideBit}
+use Rattle.flags.specs.Flags.{outsideBit}
 use Rattle.pack.proofs.OutsideLaws.{exclusion-outside}
 use Rattle.level_planes.specs.Excluded.{Excludes}
 

@@ -24,8 +24,10 @@ use Rattle.rules.proofs.FrameLaws.{row-fits, pixel-fits}
 use Rattle.words.proofs.BitLaws.{word-bit}
 use Rattle.threshold.specs.Flat.{thresholdIn}
 use Rattle.threshold.proofs.FlatLaws.{threshold-flat}
-use Rattle.pack.specs.Outside.{outsideBit, outsidePlane, outsideWord}
-use Rattle.pack.proofs.OutsideLaws.{outside-lt, threshold-plane}
+use Rattle.flags.specs.Flags.{outsideBit}
+use Rattle.pack.specs.Outside.{outsidePlane, outsideWord}
+use Rattle.flags.proofs.FlagLaws.{outside-lt}
+use Rattle.pack.proofs.OutsideLaws.{threshold-plane}
 use Rattle.level_planes.specs.Planes.{planesAt, BothAt, PackedAt}
 use Rattle.level_planes.specs.Excluded.{Excludes}
 use Rattle.rules.proofs.PairLaws.{threshold-ext}

@@ -4,7 +4,7 @@ use Prim.Native.Nat.{ℕ, _≤_}
 use Rattle.rules.specs.declared.Exclusion.{Exclusion}
 use Rattle.rules.specs.Limits.{maxGrey}
 use Rattle.rules.specs.Levels.{ruleOf}
-use Rattle.pack.specs.Outside.{outsideBit}
+use Rattle.flags.specs.Flags.{outsideBit}
 
 -- at a level with threshold t the rule's bit of a grey value is 1 where it lies outside lo..hi
 pub record Excludes (exclusion : Exclusion) (t lo hi : ℕ) : Type 0 where

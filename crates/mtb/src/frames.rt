@@ -8,8 +8,8 @@ ghost use Rattle.rules.specs.Thresholds.{threshold};
 ghost use Rattle.rules.specs.Calls.{greyOut, halveOut};
 ghost use Rattle.mtb.specs.Told.{valueAfter};
 use crate::answers::refusal_in;
-use frame::halve;
-use frame::to_grey;
+use grey::to_grey;
+use halve::halve;
 use rules::Thresholded;
 
 #[no_mangle]

@@ -1,27 +1,27 @@
--- Laws of flags and of the words that they make.
-use mathlib.Core.Path.{_≡_, refl, sym, ap, ap₂, _∙_}
-use mathlib.Core.Bool.{Bool, true, false, _||_}
+-- Laws of the words that flags make, of rows of them and of whole planes.
+use mathlib.Core.Path.{_≡_, refl, sym, ap, _∙_}
+use mathlib.Core.Bool.{_||_}
 use mathlib.Core.Logic.{⊎-elim}
 use mathlib.Core.List.{List}
-use Prim.Native.Nat.{ℕ, _+_, _*_, _-_, _/_, _%_, _^_, _≤_, _<_, min, max}
-use native.Mathlib.Nat.{add-assoc, zero-mul, one-mul}
+use Prim.Native.Nat.{ℕ, _+_, _*_, _-_, _/_, _≤_, _<_, min, max}
+use native.Mathlib.Nat.{add-assoc}
 use native.Mathlib.Omega.{arith}
 use lib.Dec.{ltb}
-use lib.ListN.{length, getD, set, replicate, getD-replicate}
-use lib.Seq.{getD-set-same, getD-set-other}
+use lib.ListN.{length, getD, set}
 use borrow.Author.Tests.{lt-ltb, le-ltb}
 use Rattle.rules.specs.Sums.{gate, oneIf}
 use Rattle.rules.specs.Frames.{Frame, frameOf, writtenOver}
 use Rattle.rules.specs.Planes.{thresholdBit, distance, exclusionBit, bitsBy}
 use Rattle.rules.specs.Bitmaps.{rowWords, bit, word, wordOf, packed}
-use Rattle.rules.proofs.SumLaws.{order, gate-small}
 use Rattle.rules.specs.Buffers.{RowAt, FrameAt}
+use Rattle.rules.proofs.SumLaws.{order}
 use Rattle.rules.proofs.FrameLaws.{row-more, frame-more, frame-written, row-fits}
 use Rattle.words.proofs.BitLaws.{word-ext}
-use Rattle.pack.proofs.CaseLaws.{compared}
-use Rattle.pack.proofs.GatherLaws.{columns-turned}
-use Rattle.pack.specs.Outside.{outsideBit, outsidePlane, flagAt, outsideWord, columnsWord}
-use Rattle.pack.specs.Gathers.{Weighed, byColumns, turnedAt}
+use Rattle.flags.specs.Flags.{outsideBit, flagAt}
+use Rattle.flags.proofs.FlagLaws.{flag-lt, flag-in, flag-past}
+use Rattle.gather.specs.Gathers.{byColumns, turnedAt}
+use Rattle.gather.proofs.GatherLaws.{columns-turned}
+use Rattle.pack.specs.Outside.{outsidePlane, outsideWord, columnsWord}
 
 -- "Threshold bit: 1 where grey > t."
 pub threshold-outside : (t v : ℕ) → thresholdBit t v ≡ outsideBit 0 t v
@@ -65,72 +65,6 @@ unfolding outsidePlane frameOf
 exclusion-plane t tolerance w grey bytes =
     λ i x y. exclusion-outside t tolerance (frameOf w grey x y) (let b = bytes (y * w + x) in omega arith) i
 
--- Counted on from lo, round at 256, the values of lo..hi come first: one test tells where v lies.
-pub outside-past : (lo hi v : ℕ) → lo ≤ hi → hi < 256 → v < 256 → hi - lo < (v + (256 - lo)) % 256 → outsideBit lo hi v ≡ 1
-unfolding outsideBit
-outside-past lo hi v k l b p =
-    ⊎-elim (λ (m : v < lo). simp (lt-ltb v lo m)) (λ (m : lo ≤ v). simp (le-ltb v lo m, lt-ltb hi v (omega arith))) (order v lo)
-
-pub outside-first : (lo hi v : ℕ) → lo ≤ hi → hi < 256 → v < 256 → (v + (256 - lo)) % 256 ≤ hi - lo → outsideBit lo hi v ≡ 0
-unfolding outsideBit
-outside-first lo hi v k l b p = simp (le-ltb v lo (omega arith), le-ltb hi v (omega arith))
-
-one-if-lt : (t : Bool) → oneIf t < 2
-one-if-lt true = omega arith
-one-if-lt false = omega arith
-
-pub outside-lt : (lo hi v : ℕ) → outsideBit lo hi v < 2
-unfolding outsideBit
-outside-lt lo hi v = one-if-lt (ltb v lo || ltb hi v)
-
-flag-lt : (lo hi : ℕ) (grey : List ℕ) (at n i : ℕ) → flagAt lo hi grey at n i < 2
-unfolding flagAt
-flag-lt lo hi grey at n i = gate-small (ltb i n) (outsideBit lo hi (getD grey (at + i) 0)) (outside-lt lo hi (getD grey (at + i) 0))
-
-flag-in : (lo hi : ℕ) (grey : List ℕ) (at n i : ℕ) → i < n → flagAt lo hi grey at n i ≡ outsideBit lo hi (getD grey (at + i) 0)
-unfolding flagAt
-flag-in lo hi grey at n i l = ap (λ t. gate t (outsideBit lo hi (getD grey (at + i) 0))) (lt-ltb i n l)
-
-flag-past : (lo hi : ℕ) (grey : List ℕ) (at n i : ℕ) → n ≤ i → flagAt lo hi grey at n i ≡ 0
-unfolding flagAt
-flag-past lo hi grey at n i l = ap (λ t. gate t (outsideBit lo hi (getD grey (at + i) 0))) (le-ltb i n l)
-
--- no flag yet
-pub flags-none : (lo hi : ℕ) (grey : List ℕ) (at : ℕ) → Weighed (flagAt lo hi grey at 0) (replicate 64 0)
-flags-none lo hi grey at = record {
-  flag = λ i l. flag-lt lo hi grey at 0 i;
-  held = λ i l. getD-replicate 64 i 0 0 l ∙ sym (ap (λ (v : ℕ). v * 2 ^ (i / 8)) (flag-past lo hi grey at 0 i (omega arith)) ∙ zero-mul (2 ^ (i / 8)));
-}
-
--- one flag more
-pub flags-more : (lo hi : ℕ) (grey : List ℕ) (at i : ℕ) (flags : List ℕ) (v weight : ℕ) → i < length flags → weight ≡ 1 * 2 ^ (i / 8)
-    → v ≡ outsideBit lo hi (getD grey (at + i) 0) * weight
-    → Weighed (flagAt lo hi grey at i) flags → Weighed (flagAt lo hi grey at (i + 1)) (set flags i v)
-flags-more lo hi grey at i flags v weight room e d w = record {
-  flag = λ k l. flag-lt lo hi grey at (i + 1) k;
-  held = λ k l. compared k i (other k l) (here k) (past k l);
-}
-  where
-    other : (k : ℕ) → k < 64 → k < i → getD (set flags i v) k 0 ≡ flagAt lo hi grey at (i + 1) k * 2 ^ (k / 8)
-    other k l m =
-        getD-set-other flags i k v 0 (λ f. omega arith)
-        ∙ w .held k l
-        ∙ ap (λ (u : ℕ). u * 2 ^ (k / 8)) (flag-in lo hi grey at i k m ∙ sym (flag-in lo hi grey at (i + 1) k (omega arith)))
-
-    past : (k : ℕ) → k < 64 → i < k → getD (set flags i v) k 0 ≡ flagAt lo hi grey at (i + 1) k * 2 ^ (k / 8)
-    past k l m =
-        getD-set-other flags i k v 0 (λ f. omega arith)
-        ∙ w .held k l
-        ∙ ap (λ (u : ℕ). u * 2 ^ (k / 8)) (flag-past lo hi grey at i k (omega arith) ∙ sym (flag-past lo hi grey at (i + 1) k (omega arith)))
-
-    here : (k : ℕ) → k ≡ i → getD (set flags i v) k 0 ≡ flagAt lo hi grey at (i + 1) k * 2 ^ (k / 8)
-    here k f =
-        ap (λ (j : ℕ). getD (set flags i v) j 0) f
-        ∙ getD-set-same flags i v 0 room
-        ∙ d
-        ∙ ap₂ (λ (u c : ℕ). u * c) (sym (flag-in lo hi grey at (i + 1) i (omega arith))) (e ∙ one-mul (2 ^ (i / 8)))
-        ∙ ap (λ (j : ℕ). flagAt lo hi grey at (i + 1) j * 2 ^ (j / 8)) (sym f)
-
 -- the words of a row, as a sum that omega reads
 pub row-words : (w : ℕ) → rowWords w ≡ (w + 63) / 64
 unfolding rowWords
@@ -165,13 +99,6 @@ pub columns-word : (lo hi : ℕ) (grey : List ℕ) (from w to k n : ℕ) (before
 unfolding columnsWord
 columns-word lo hi grey from w to k n before after v room e d r =
     row-more to (columnsWord lo hi grey from w) before k after v room r (d ∙ ap (λ (m : ℕ). byColumns (flagAt lo hi grey (from + k * 64) m)) e)
-
--- one word more turned in its place
-pub turn-word : (to k : ℕ) (before after : List ℕ) (v : ℕ) → to + k < length before → v ≡ byColumns (bit (getD after (to + k) 0))
-    → RowAt to (turnedAt before to) before k after → RowAt to (turnedAt before to) before (k + 1) (set after (to + k) v)
-unfolding turnedAt
-turn-word to k before after v room e r =
-    row-more to (turnedAt before to) before k after v room r (e ∙ ap (λ (u : ℕ). byColumns (bit u)) (r .over (to + k) (omega arith)))
 
 -- a row by columns, turned
 pub row-turned : (lo hi : ℕ) (grey : List ℕ) (from w to n : ℕ) (before mid after : List ℕ)

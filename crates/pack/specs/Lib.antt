@@ -1,3 +1,2 @@
 -- What the packing functions keep, in terms of document 01's definitions.
-pub mod Gathers
 pub mod Outside

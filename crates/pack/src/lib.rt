@@ -6,11 +6,8 @@ use interval::low_end;
 use rules::Written;
 
 pub mod frame;
-mod gather;
 pub mod interval;
-mod outside;
 pub mod rows;
-mod turning;
 
 ghost use mathlib.Core.Path.{_≡_};
 ghost use Rattle.rules.specs.Answers.{written};

@@ -1,16 +1,17 @@
 // Rows of pixels packed into words, one bit a pixel: 1 where its grey value lies outside lo..hi.
 
-use crate::gather::gather_columns;
-use crate::outside::WEIGHTS;
-use crate::outside::flags_of;
-use crate::turning::turn_row;
+use flags::WEIGHTS;
+use flags::flags_of;
+use gather::columns::gather_columns;
+use gather::turning::turn_row;
 ghost use mathlib.Core.Path.{_≡_};
 ghost use Prim.Native.Nat.{_+_, _*_, _≤_};
 ghost use lib.ListN.{length};
 ghost use Rattle.rules.specs.Bitmaps.{rowWords};
 ghost use Rattle.rules.specs.Buffers.{RowAt};
-ghost use Rattle.pack.specs.Outside.{flagAt, outsideWord, columnsWord};
-ghost use Rattle.pack.specs.Gathers.{Weighed, byColumns};
+ghost use Rattle.flags.specs.Flags.{flagAt, Weighed};
+ghost use Rattle.pack.specs.Outside.{outsideWord, columnsWord};
+ghost use Rattle.gather.specs.Gathers.{byColumns};
 
 // The flags of the n pixels from place `at` on as a word by columns.
 fn pack_word(grey: &[u8], at: usize, n: usize, lo: u8, hi: u8, weights: &[u8; 64]) -> u64

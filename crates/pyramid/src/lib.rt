@@ -1,13 +1,13 @@
 // Halving of a grey frame inside one lent memory, level under level: a memory can't be lent in two
 // parts at once, so the frame and its half are places of one slice.
 
-use frame::halving;
+use halve::halving;
 ghost use Prim.Native.Nat.{_+_, _*_, _/_, _≤_};
 ghost use lib.ListN.{length, drop};
 ghost use Rattle.rules.specs.Frames.{frameOf};
 ghost use Rattle.rules.specs.Greys.{halved};
 ghost use Rattle.rules.specs.Buffers.{RowAt, FrameAt};
-ghost use Rattle.frame.specs.Places.{halfAt, RowFits};
+ghost use Rattle.halve.specs.HalfPlaces.{halfAt, RowFits};
 
 // The first results of two rows, as many whole blocks as n holds. Both rows end at or before `to`,
 // so no result overwrites them, and the byte more that a block reads is there.

@@ -160,3 +160,35 @@ frame-written w h f before after room a =
     written-is w h f before after (a .len) room
     (λ x y k l. ap (λ (j : ℕ). getD after j 0) (sym (zero-add (y * w + x))) ∙ a .done x y k l)
     (λ m l. a .over m (let c = mul-comm w h in omega arith))
+
+-- A row written in two parts.
+pub row-join : (to : ℕ) (f g : ℕ → ℕ) (before mid after : List ℕ) (k m : ℕ)
+    → RowAt to f before k mid
+    → RowAt (to + k) g mid m after
+    → ((j : ℕ) → j < m → g j ≡ f (k + j))
+    → RowAt to f before (k + m) after
+row-join to f g before mid after k m a b same = record {
+  len = b .len ∙ a .len;
+  under = λ i l. b .under i (omega arith) ∙ a .under i l;
+  done = λ i l. ⊎-elim (old i) (new i l) (order i k);
+  over = λ i l. b .over i (omega arith) ∙ a .over i (omega arith);
+}
+  where
+    old : (i : ℕ) → i < k → getD after (to + i) 0 ≡ f i
+    old i l = b .under (to + i) (omega arith) ∙ a .done i l
+
+    new : (i : ℕ) → i < k + m → k ≤ i → getD after (to + i) 0 ≡ f i
+    new i l n =
+        let d : k + (i - k) ≡ i = omega arith in
+        let e : to + i ≡ to + k + (i - k) = omega arith in
+        ap (λ (j : ℕ). getD after j 0) e ∙ b .done (i - k) (omega arith) ∙ same (i - k) (omega arith) ∙ ap f d
+
+-- numbers written flat are a frame
+pub flat-frame : (to w h : ℕ) (f : ℕ → ℕ) (before after : List ℕ) → RowAt to f before (w * h) after
+    → FrameAt to w (λ x y. f (y * w + x)) before h after
+flat-frame to w h f before after r = record {
+  len = r .len;
+  under = r .under;
+  done = λ x y k l. r .done (y * w + x) (pixel-fits w h x y k l);
+  over = λ m l. r .over m (let c = mul-comm w h in omega arith);
+}

@@ -23,14 +23,13 @@ use Rattle.rules.specs.Series.{greyOf, pairOf, countList, answerOf, answerBy, s
 use Rattle.rules.specs.Calls.{settings}
 use Rattle.rules.proofs.SumLaws.{order}
 use Rattle.rules.specs.Buffers.{RowAt}
-use Rattle.rules.proofs.FrameLaws.{row-none, pixel-fits}
+use Rattle.rules.proofs.FrameLaws.{row-none, pixel-fits, row-join}
 use Rattle.rules.proofs.PairLaws.{pair-ext}
 use Rattle.rules.proofs.OffsetLaws.{near-pair, near-ward, near-more}
 use Rattle.rules.proofs.SignedLaws.{bits-are}
 use Rattle.rules.specs.Accepted.{SeriesOk}
 use Rattle.rules.proofs.AlignmentLaws.{level-pixels-at}
-use Rattle.frame.specs.Places.{greyAt}
-use Rattle.frame.proofs.PlaceLaws.{row-join}
+use Rattle.grey.specs.GreyPlaces.{greyAt}
 use Rattle.align.specs.Aligns.{Frames, Aligns, alignedIn}
 use Rattle.align.proofs.AlignLaws.{counts-length}
 use Rattle.align.proofs.PairCallLaws.{converted, row-written}

@@ -2,7 +2,7 @@
 
 use align::pairs::align_frames;
 use count::ones::ONES;
-use frame::conversion::convert;
+use grey::conversion::convert;
 ghost use mathlib.Core.Path.{_≡_};
 ghost use Prim.Native.Nat.{_<_, _≤_};
 ghost use lib.ListN.{length, set};

@@ -5,9 +5,8 @@ use lib.IntN.{ℤ}
 use lib.ListN.{length}
 use Rattle.rules.specs.Bitmaps.{rowWords}
 use Rattle.rules.specs.Buffers.{RowAt}
-use Rattle.rules.proofs.FrameLaws.{row-none}
+use Rattle.rules.proofs.FrameLaws.{row-none, row-join}
 use Rattle.rules.specs.Levels.{candidateAt}
-use Rattle.frame.proofs.PlaceLaws.{row-join}
 use Rattle.level_counts.specs.Places.{KeptTo, SlidAt, wordsCount, nineOf, columnOf}
 use Rattle.level_counts.proofs.CountLaws.{candidate-dx}
 use Rattle.level_counts.proofs.SlideLaws.{count-kept}

@@ -39,10 +39,13 @@ same-length-2 c = search needs
 returns-2 : tie.Need-returns-2
 returns-2 c =
     let a = c .before .before .before .before .before .before .before .before .before .before .before .before .before .before .args in
-    let e = sym (c .before .before .before .before .before .before .before .before .before .before .bitmaps-refusal .ensures) ∙ c .before .before .before .before .before .before .before .before .before .if1 .left in
+    let accepted = c .before .before .before .before .before .before .before .before .before in
+    let low = c .before .before .before .before .before .before .before .before .low-end .ensures in
+    let high = c .before .before .before .before .before .before .before .high-end .ensures in
+    let e = sym (accepted .before .bitmaps-refusal .ensures) ∙ accepted .if1 .left in
     let k = bitmaps-ok (a .w) (a .h) (a .tolerance) _ _ _ e in
-    let ends = ap₂ (λ (lo hi : ℕ). outsidePlane lo hi (a .w) (a .grey .now)) (sym (c .before .before .before .before .before .before .before .before .low-end .ensures)) (sym (c .before .before .before .before .before .before .before .high-end .ensures)) in
-    let bytes : (i : ℕ) → getD (a .grey .now) i 0 < 256 = λ i. c .before .before .before .before .before .before .before .before .before .before .before .before .before .shared-slice-known .given i .fits in
+    let ends = ap₂ (λ (lo hi : ℕ). outsidePlane lo hi (a .w) (a .grey .now)) (sym low) (sym high) in
+    let bytes : (i : ℕ) → getD (a .grey .now) i 0 < 256 = λ i. accepted .before .before .before .before .shared-slice-known .given i .fits in
     let f = c .before .before .before .before .pack-frame in
     rw e (
       refl,

@@ -33,9 +33,10 @@ loop-holds c =
 
 -- a row's places in the frame and in a bitmap
 inside : (c : tie.In-loop Inv-loop μ-loop)
-    → (c .before .loop .y * c .before .before .before .before .before .before .args .w + c .before .before .before .before .before .before .args .w ≤ c .before .before .before .before .before .before .args .w * c .before .before .before .before .before .before .args .h)
-    × (c .before .loop .y * c .before .before .row-words .result ≡ 0 + c .before .loop .y * rowWords (c .before .before .before .before .before .before .args .w))
-    × (c .before .loop .y * c .before .before .row-words .result + rowWords (c .before .before .before .before .before .before .args .w) ≤ rowWords (c .before .before .before .before .before .before .args .w) * c .before .before .before .before .before .before .args .h)
+    → let a = c .before .before .before .before .before .before .args in
+    let y = c .before .loop .y in
+    let n = c .before .before .row-words .result in
+    (y * a .w + a .w ≤ a .w * a .h) × (y * n ≡ 0 + y * rowWords (a .w)) × (y * n + rowWords (a .w) ≤ rowWords (a .w) * a .h)
 inside c =
     let a = c .before .before .before .before .before .before .args in
     let l : c .before .loop .y < a .h = omega arith in
@@ -52,7 +53,9 @@ pack-row-requires : tie.Need-pack-row-requires Inv-loop μ-loop
 pack-row-requires c κs = omega (arith, inside (c .before), c .before .before .before .before .before .before .before .pre, c .before .before .loop .inv .1 .len)
 
 pack-row-requires-2 : tie.Need-pack-row-requires-2 Inv-loop μ-loop
-pack-row-requires-2 c κs = omega (arith, inside (c .before .before .before .before .before), c .before .before .before .before .before .before .before .before .before .before .before .pre, c .before .before .before .before .before .before .loop .inv .2 .len)
+pack-row-requires-2 c κs =
+    let s = c .before .before .before .before .before in
+    omega (arith, inside s, s .before .before .before .before .before .before .pre, s .before .loop .inv .2 .len)
 
 add-y : tie.Need-add-y Inv-loop μ-loop
 add-y c = search needs

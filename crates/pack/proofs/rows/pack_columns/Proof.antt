@@ -6,7 +6,7 @@ use Rattle.rules.specs.Buffers.{RowAt}
 use Rattle.rules.proofs.FrameLaws.{row-none}
 use Rattle.pack.specs.Outside.{columnsWord}
 use Rattle.pack.proofs.OutsideLaws.{row-words, columns-word}
-use Rattle.pack.proofs.GatherLaws.{weights-held}
+use Rattle.flags.proofs.FlagLaws.{weights-held}
 use native.Mathlib.Omega.{arith}
 use borrow.Author.Needs.{needs}
 use Rattle.pack.proofs.rows.pack_columns.Statement.{statement}

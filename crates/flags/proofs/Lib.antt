@@ -1,0 +1,3 @@
+-- Laws of flags and of proofs by cases.
+pub mod CaseLaws
+pub mod FlagLaws

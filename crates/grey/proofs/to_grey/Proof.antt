@@ -1,0 +1,60 @@
+-- A refused call answers its number and touches nothing; an accepted one has the sizes that the core requires, and the flat row is the frame.
+use mathlib.Core.Path.{refl, sym, _∙_}
+use native.Mathlib.Omega.{arith}
+use lib.ListN.{length}
+use borrow.Author.Needs.{needs}
+use Rattle.rules.specs.Greys.{greyFrame}
+use Rattle.rules.proofs.FrameLaws.{frame-written, flat-frame}
+use Rattle.rules.specs.Accepted.{GreyOk}
+use Rattle.rules.proofs.RefusalLaws.{grey-ok, written-refused, buffer-refused}
+use Rattle.grey.specs.GreyPlaces.{greyAt}
+use Rattle.grey.proofs.to_grey.Statement.{statement}
+use Rattle.grey.proofs.to_grey.Tie as tie
+
+grey-refusal-requires : tie.Need-grey-refusal-requires
+grey-refusal-requires c κs = search needs
+
+returns : tie.Need-returns
+returns c =
+    rw (← c .before .grey-refusal .ensures)
+    (written-refused _ (c .if1 .taken), buffer-refused _ _ _ (c .if1 .taken))
+
+-- what an accepted call knows of its sizes
+accepted : (c : tie.Else1)
+    → let a = c .before .before .before .before .args in GreyOk (a .w) (a .h) (length (a .raster .now)) (length (a .grey .now))
+accepted c =
+    let a = c .before .before .before .before .args in
+    grey-ok (a .w) (a .h) (length (a .raster .now)) (length (a .grey .now)) (sym (c .before .grey-refusal .ensures) ∙ c .if1 .left)
+
+mul-convert : tie.Need-mul-convert
+mul-convert c = omega (arith, accepted c)
+
+convert-requires : tie.Need-convert-requires
+convert-requires c κs = omega (arith, accepted (c .before))
+
+same-length : tie.Need-same-length
+same-length c = search needs
+
+returns-2 : tie.Need-returns-2
+unfolding greyAt greyFrame
+returns-2 c =
+    let done = c .before .before in
+    let taken = done .before .before in
+    let a = taken .before .before .before .before .args in
+    let e = sym (taken .before .grey-refusal .ensures) ∙ taken .if1 .left in
+    rw e (
+      refl,
+      frame-written
+          (a .w)
+          (a .h)
+          (greyFrame (a .w) (a .raster .now))
+          (a .grey .now)
+          (done .convert .last .1 .1 .0)
+          (accepted taken .room)
+          (flat-frame 0 (a .w) (a .h) (greyAt (a .raster .now)) (a .grey .now) (done .convert .last .1 .1 .0) (done .convert .ensures)),
+    )
+
+pub to-grey-spec : {M : Type 1} → statement M
+to-grey-spec =
+    tie.close
+    (tie.spec grey-refusal-requires returns mul-convert convert-requires same-length returns-2)

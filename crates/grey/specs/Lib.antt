@@ -1,0 +1,2 @@
+-- What the core of the grey conversion says of flat lists, by place rather than by pixel.
+pub mod GreyPlaces

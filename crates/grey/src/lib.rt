@@ -1,0 +1,20 @@
+// Grey conversion of rasters: the offered call.
+
+pub mod conversion;
+
+use rules::Written;
+ghost use mathlib.Core.Path.{_≡_};
+ghost use Rattle.rules.specs.Calls.{greyAnswer, greyOut};
+
+// Grey conversion of a raster into a lent grey frame.
+pub fn to_grey(w: usize, h: usize, raster: &[u8], grey: &mut [u8]) -> Written
+    ensures answer { λ r. ⌜ r ≡ greyAnswer w h (now (raster .entry)) (now (grey .entry)) ⌝ }
+    ensures output { λ _. ⌜ now (grey .exit) ≡ greyOut w h (now (raster .entry)) (now (grey .entry)) ⌝ }
+{
+    let n = refusals::grey_refusal(w, h, raster.len(), grey.len());
+    if n != 0 {
+        return Written::Refused(n);
+    }
+    conversion::convert(raster, w * h, grey, 0);
+    Written::Done
+}

@@ -1,0 +1,2 @@
+-- What the core of the halving says of flat lists, by place rather than by pixel.
+pub mod HalfPlaces
