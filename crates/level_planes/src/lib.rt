@@ -6,7 +6,8 @@ use exclusion::excluded;
 use pack::rows::pack_row;
 use refusals::row_words;
 use rules::Setup;
-use threshold::walk::percentile_of;
+use threshold::counts::histogram;
+use threshold::walk::threshold_of;
 ghost use mathlib.Core.Path.{_≡_};
 ghost use Prim.Native.Nat.{_+_, _*_, _≤_};
 ghost use lib.ListN.{length, drop};
@@ -73,7 +74,8 @@ pub fn bitmaps_within(grey: &[u8], from: usize, setup: Setup, words: &mut [u64],
         exclusion,
     } = setup;
     let end = from + w * h;
-    let threshold = percentile_of(&grey[from..end], percentile);
+    let counts = histogram(&grey[from..end]);
+    let threshold = threshold_of(&counts, w * h, percentile);
     let out = excluded(threshold, exclusion);
     pack_within(grey, from, w, h, threshold, out.lo, out.hi, words, to);
 }
