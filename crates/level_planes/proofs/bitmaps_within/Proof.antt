@@ -1,7 +1,7 @@
--- The threshold of the lent part is the frame's, so the two intervals give the frame's planes.
-use mathlib.Core.Path.{_∙_}
+-- The counts of the lent part give the frame's threshold, so the two intervals give the frame's planes.
+use mathlib.Core.Path.{_≡_, _∙_}
 use Prim.Native.Nat.{_*_, _≤_}
-use native.Mathlib.Nat.{mul-le-mul}
+use lib.ListN.{length, take, drop}
 use Rattle.level_planes.proofs.SideLaws.{sized}
 use Rattle.level_planes.proofs.PlaneLaws.{part-length, part-threshold, packed-at}
 use native.Mathlib.Omega.{arith}
@@ -15,45 +15,57 @@ mul-end c = search needs
 add-end : tie.Need-add-end
 add-end c = search needs
 
-sub-percentile-of : tie.Need-sub-percentile-of
-sub-percentile-of c = search needs
+sub-histogram : tie.Need-sub-histogram
+sub-histogram c = search needs
 
-part-percentile-of-start : tie.Need-part-percentile-of-start
-part-percentile-of-start c = search needs
+part-histogram-start : tie.Need-part-histogram-start
+part-histogram-start c = search needs
 
-part-percentile-of-end : tie.Need-part-percentile-of-end
-part-percentile-of-end c = search needs
+part-histogram-end : tie.Need-part-histogram-end
+part-histogram-end c = search needs
 
-percentile-of-requires : tie.Need-percentile-of-requires
-percentile-of-requires c κs =
+histogram-requires : tie.Need-histogram-requires
+histogram-requires c κs =
     let s = c .before .before .before in
     let a = s .args in
-    let p = s .pre in
-    let z = sized (a .w) (a .h) (p .0) in
-    let one : 1 * 1 ≤ a .w * a .h = mul-le-mul (z .wide) (z .high) in
-    let len = part-length (a .w) (a .h) (a .from) (a .grey .now) (p .1 .1 .0) in
+    let z = sized (a .setup .w) (a .setup .h) (s .pre .0) .area in
+    let len = part-length (a .setup .w) (a .setup .h) (a .from) (a .grey .now) (s .pre .1 .1 .0) in
     omega arith
 
-low-end-requires : tie.Need-low-end-requires
-low-end-requires c κs = search needs
+mul-threshold-of : tie.Need-mul-threshold-of
+mul-threshold-of c = search needs
 
-high-end-requires : tie.Need-high-end-requires
-high-end-requires c κs = search needs
+threshold-of-requires : tie.Need-threshold-of-requires
+threshold-of-requires c κs =
+    let s = c .before .before .before .before .before in
+    let a = s .args in (
+      c .before .histogram .ensures .all ∙ part-length (a .setup .w) (a .setup .h) (a .from) (a .grey .now) (s .pre .1 .1 .0),
+      sized (a .setup .w) (a .setup .h) (s .pre .0) .area,
+      s .pre .1 .0 .1,
+    )
+
+excluded-requires : tie.Need-excluded-requires
+excluded-requires c κs = search needs
 
 pack-within-requires : tie.Need-pack-within-requires
-pack-within-requires c κs = search needs
+pack-within-requires c κs =
+    let p = c .before .before .before .before .before .before .before .before .pre in
+    (p .0, (p .1 .1 .0, (p .1 .1 .1, c .before .excluded .ensures .ordered)))
 
 same-length : tie.Need-same-length
 same-length c = search needs
 
 returns : tie.Need-returns
 returns c =
-    let s = c .before .before .before .before .before .before .before .before .before .before in
+    let s = c .before .before .before .before .before .before .before .before .before .before .before in
     let a = s .args in
-    packed-at (a .w) (a .h) (a .percentile) (a .tolerance) (a .from) (a .grey .now) (a .to) (a .words .now) _ (c .before .before .before .before .before .before .percentile-of .result) (c .before .before .before .before .before .low-end .result) (c .before .before .before .before .high-end .result)
-    (λ i. c .before .before .before .before .before .before .before .before .before .shared-slice-known .given i .fits)
-    (c .before .before .before .before .before .before .percentile-of .ensures ∙ part-threshold (a .w) (a .h) (a .from) (a .grey .now) (s .pre .1 .1 .0) (a .percentile))
-    (c .before .before .before .before .before .low-end .ensures) (c .before .before .before .before .high-end .ensures) (c .before .before .pack-within .ensures)
+    let counts = c .before .before .before .before .before .before .before .histogram in
+    let t = c .before .before .before .before .before .threshold-of in
+    let out = c .before .before .before .before .excluded in
+    packed-at (a .setup) (a .from) (a .grey .now) (a .to) (a .words .now) _ (t .result) (out .result .lo) (out .result .hi)
+    (λ i. c .before .before .before .before .before .before .before .before .before .before .shared-slice-known .given i .fits)
+    (t .ensures _ (counts .ensures) ∙ part-threshold (a .setup .w) (a .setup .h) (a .from) (a .grey .now) (s .pre .1 .1 .0) (a .setup .percentile))
+    (out .ensures) (c .before .before .pack-within .ensures)
 
 pub bitmaps-within-spec : {M : Type 1} → statement M
 bitmaps-within-spec =
@@ -61,12 +73,13 @@ bitmaps-within-spec =
     (tie.spec
     mul-end
     add-end
-    sub-percentile-of
-    part-percentile-of-start
-    part-percentile-of-end
-    percentile-of-requires
-    low-end-requires
-    high-end-requires
+    sub-histogram
+    part-histogram-start
+    part-histogram-end
+    histogram-requires
+    mul-threshold-of
+    threshold-of-requires
+    excluded-requires
     pack-within-requires
     same-length
     returns)
