@@ -1,3 +1,2 @@
--- Laws of the recursion, and of the offered call over it.
+-- Laws of the recursion.
 pub mod AlignLaws
-pub mod PairCallLaws

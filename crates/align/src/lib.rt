@@ -1,64 +1,109 @@
-// Alignment of a pair of rasters: the offered call.
+// The recursive alignment of two grey frames that stand in lent memory.
 
-pub mod pairs;
-
-use count::ones::ONES;
-use grey::conversion::convert;
-use lending::pair_refusal;
-use pairs::align_frames;
-use rules::Paired;
+use level::align_level;
+use pyramid::halve_within;
+use rules::Offset;
+use rules::Setup;
 ghost use mathlib.Core.Path.{_≡_};
-ghost use Rattle.rules.specs.Answers.{paired, bufferAfter};
-ghost use Rattle.rules.specs.Calls.{pairNumber, pairResult};
+ghost use Prim.Native.Nat.{_+_, _*_, _≤_};
+ghost use lib.ListN.{length};
+ghost use Rattle.rules.specs.Limits.{maxOffset};
+ghost use Rattle.rules.specs.Bitmaps.{rowWords};
+ghost use Rattle.rules.specs.Levels.{added, Near, Arrangement, arranged};
+ghost use Rattle.count.specs.Ones.{CountsOnes};
+ghost use Rattle.align.specs.Aligns.{Frames, Aligns};
 
-// The offset that moves the second frame onto the first, and the counts of every level.
-pub fn pair(
-    w: usize,
-    h: usize,
-    s: u32,
-    tolerance: u32,
-    percentile: u32,
-    first: &[u8],
-    second: &[u8],
-    counts: &mut [u32],
-    grey: &mut [u8],
-    words: &mut [u64],
-) -> Paired
-    ensures answer { λ r. ⌜ r ≡ paired (pairNumber w h s tolerance percentile (now (first .entry)) (now (second .entry)) (now (counts .entry)) (now (grey .entry)) (now (words .entry))) (pairResult w h s tolerance percentile (now (first .entry)) (now (second .entry)) .offset) ⌝ }
-    ensures counts { λ _. ⌜ now (counts .exit) ≡ bufferAfter (pairNumber w h s tolerance percentile (now (first .entry)) (now (second .entry)) (now (counts .entry)) (now (grey .entry)) (now (words .entry))) (pairResult w h s tolerance percentile (now (first .entry)) (now (second .entry)) .counts) (now (counts .entry)) ⌝ }
-    ensures memory { λ _. ⌜ ((pairNumber w h s tolerance percentile (now (first .entry)) (now (second .entry)) (now (counts .entry)) (now (grey .entry)) (now (words .entry)) ≡ 0 → ⊥) → (now (grey .exit) ≡ now (grey .entry)) × (now (words .exit) ≡ now (words .entry))) ⌝ }
+// An offset of the next coarser level, at this one.
+fn doubled(m: Offset) -> Offset
+    requires { ⌜ Near maxOffset m ⌝ }
+    ensures { λ r. ⌜ r ≡ added m m ⌝ }
 {
-    let n = pair_refusal(
-        w,
-        h,
-        s,
-        tolerance,
-        percentile,
-        first.len(),
-        second.len(),
-        counts.len(),
-        grey.len(),
-        words.len(),
-    );
-    if n != 0 {
-        return Paired::Refused(n);
+    Offset {
+        dx: m.dx + m.dx,
+        dy: m.dy + m.dy,
     }
-    let area = w * h;
-    convert(first, area, grey, 0);
-    convert(second, area, grey, area);
-    let ones = ONES;
-    Paired::Moved(align_frames(
-        grey,
-        0,
-        area,
+}
+
+// Aligns the grey frames that stand at `first` and at `second` of the lent memory, one of them at its
+// beginning and one right after it. Each coarser level is written into the remainder.
+pub fn align_frames(
+    grey: &mut [u8],
+    first: usize,
+    second: usize,
+    setup: Setup,
+    words: &mut [u64],
+    counts: &mut [u32],
+    at: usize,
+    order: &[usize; 9],
+    ones: &[u8; 256],
+) -> Offset
+    requires frames { ⌜ Frames first second setup (length (now grey)) ⌝ }
+    requires room { ⌜ 6 * (rowWords (setup .w) * setup .h) ≤ length (now words) ⌝ }
+    requires levels { ⌜ at + 9 * (setup .s + 1) ≤ length (now counts) ⌝ }
+    requires order { ⌜ Arrangement (now order) ⌝ }
+    requires table { ⌜ CountsOnes (now ones) ⌝ }
+    ensures { λ r. ⌜
+        Aligns (arranged (now (order .entry))) setup first second at
+        (now (grey .entry)) (now (grey .exit)) (now (counts .entry)) (now (counts .exit)) r
+        ⌝ }
+{
+    let Setup {
         w,
         h,
         s,
         percentile,
-        tolerance,
+        exclusion,
+    } = setup;
+    if s == 0 {
+        let origin = Offset { dx: 0, dy: 0 };
+        return align_level(
+            grey,
+            first,
+            second,
+            setup,
+            words,
+            origin,
+            counts,
+            at,
+            order,
+            ones,
+        );
+    }
+    let rest = 2 * (w * h);
+    let quarter = (w / 2) * (h / 2);
+    halve_within(grey, first, w, h, rest);
+    halve_within(grey, second, w, h, rest + quarter);
+    let half = Setup {
+        w: w / 2,
+        h: h / 2,
+        s: s - 1,
+        percentile,
+        exclusion,
+    };
+    let coarse = align_frames(
+        &mut grey[rest..],
+        0,
+        quarter,
+        half,
         words,
         counts,
-        0,
-        &ones,
-    ))
+        at,
+        order,
+        ones,
+    );
+    let centre = doubled(coarse);
+    let place = at + 9 * (s as usize);
+    let aligned = align_level(
+        grey,
+        first,
+        second,
+        setup,
+        words,
+        centre,
+        counts,
+        place,
+        order,
+        ones,
+    );
+    aligned
 }

@@ -1,11 +1,12 @@
 -- Each coordinate is far from the limits of an i32.
 use Prim.Native.Nat.{ℕ, _≤_}
 use native.Mathlib.Omega.{arith}
+use Rattle.rules.specs.Limits.{maxOffset}
 use Rattle.rules.proofs.SignedLaws.{sum-bits-fit, sum-is}
-use Rattle.align.proofs.pairs.doubled.Statement.{statement}
-use Rattle.align.proofs.pairs.doubled.Tie as tie
+use Rattle.align.proofs.doubled.Statement.{statement}
+use Rattle.align.proofs.doubled.Tie as tie
 
-small : {n : ℕ} → n ≤ 1000 → n ≤ 2000000
+small : {n : ℕ} → n ≤ maxOffset → n ≤ 2000000
 small l = omega arith
 
 add-t2 : tie.Need-add-t2
