@@ -33,14 +33,14 @@ fn next_offset(m: Offset, pairs: &[i32], k: usize) -> Offset
     Offset { dx, dy }
 }
 
-// The offset the other way: of the first frame from the second, for that of the second from the first.
+// An offset turned round: that of frame 0 from frame r, for that of frame r from frame 0.
 fn turned(m: Offset) -> Offset
     requires { ⌜ Near 2000000 m ⌝ }
     ensures { λ r. ⌜ r ≡ opposite m ⌝ }
 {
-    let dx = -m.dx;
-    let dy = -m.dy;
-    Offset { dx, dy }
+    let left = -m.dx;
+    let up = -m.dy;
+    Offset { dx: left, dy: up }
 }
 
 // Frame r's offset from frame 0: the sum of the pairs before it.
@@ -67,7 +67,8 @@ pub fn frame_offsets(pairs: &[i32], n: usize, r: usize, offsets: &mut [i32])
     requires small { ⌜ SmallPairs (n - 1) (now pairs) ⌝ }
     ensures { λ _. ⌜ now (offsets .exit) ≡ writtenOver (offsetList n (frameOffset (pairOffset (now (pairs .entry))) r)) (now (offsets .entry)) ⌝ }
 {
-    let mut m = turned(from_first(pairs, r));
+    let sum = from_first(pairs, r);
+    let mut m = turned(sum);
     let mut k: usize = 0;
     while k + 1 < n {
         put_offset(offsets, k, m);

@@ -62,10 +62,9 @@ put-offset-requires c κs = ready (c .before .before)
 next-offset-requires : tie.Need-next-offset-requires Inv-loop μ-loop
 next-offset-requires c κs =
     let a = begun (c .before .before .before .before) in
-    let l = c .before .before .before .before .loop in (
-      omega arith,
-      next-ready (a .args .pairs .now) (a .args .n - 1) (a .args .r) (l .k) (l .m) (omega arith) (a .pre .1 .1 .1) (omega arith) (omega arith) (l .inv .1),
-    )
+    let l = c .before .before .before .before .loop in
+    let near = next-ready (a .args .pairs .now) (a .args .n - 1) (a .args .r) (l .k) (l .m) (omega arith) (a .pre .1 .1 .1) (omega arith) (omega arith) (l .inv .1) in
+    omega arith
 
 add-k : tie.Need-add-k Inv-loop μ-loop
 add-k c = search needs

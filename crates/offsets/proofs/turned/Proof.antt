@@ -12,11 +12,11 @@ use Rattle.offsets.proofs.turned.Tie as tie
 negative : (z : ℤ) → natAbs z ≤ 2000000 → toZ w32 (ofZ w32 (pos 0 -ℤ toZ w32 (ofZ w32 z))) ≡ negℤ z
 negative z l = difference-is (pos 0) z (omega arith) l ∙ +ℤ-idl (negℤ z)
 
-sub-dx : tie.Need-sub-dx
-sub-dx c = difference-bits-fit (pos 0) (c .before .before .args .m .dx) (omega arith) (c .before .before .pre .dx)
+sub-left : tie.Need-sub-left
+sub-left c = difference-bits-fit (pos 0) (c .before .before .args .m .dx) (omega arith) (c .before .before .pre .dx)
 
-sub-dy : tie.Need-sub-dy
-sub-dy c = let a = c .before .before .before .before in difference-bits-fit (pos 0) (a .args .m .dy) (omega arith) (a .pre .dy)
+sub-up : tie.Need-sub-up
+sub-up c = let a = c .before .before .before .before in difference-bits-fit (pos 0) (a .args .m .dy) (omega arith) (a .pre .dy)
 
 returns : tie.Need-returns
 returns c =
@@ -24,4 +24,4 @@ returns c =
     λ i. record { dx = negative (a .args .m .dx) (a .pre .dx) i; dy = negative (a .args .m .dy) (a .pre .dy) i }
 
 pub turned-spec : {M : Type 1} → statement M
-turned-spec = tie.close (tie.spec sub-dx sub-dy returns)
+turned-spec = tie.close (tie.spec sub-left sub-up returns)
