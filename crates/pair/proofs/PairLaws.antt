@@ -7,9 +7,10 @@ use native.Mathlib.Omega.{arith}
 use lib.ListN.{length, getD, drop, length-append, length-drop, List·getD-append}
 use lib.Seq.{getD-append-add, getD-drop, ext-getD}
 use Rattle.rules.specs.declared.Offset.{Offset}
+use Rattle.rules.specs.declared.Setup.{Setup}
 use Rattle.rules.specs.Frames.{frameOf, writtenOver, SameFrame}
 use Rattle.rules.specs.Greys.{greyFrame}
-use Rattle.rules.specs.Levels.{wardOrder, byTolerance, Aligned}
+use Rattle.rules.specs.Levels.{ruleOf, Aligned}
 use Rattle.rules.specs.Calls.{pairResult}
 use Rattle.rules.proofs.SumLaws.{order}
 use Rattle.rules.specs.Buffers.{RowAt}
@@ -58,33 +59,38 @@ row-written l before after n size room r =
         ∙ sym (getD-append-add l (drop (length l) before) (i - length l) 0)
         ∙ ap (λ (j : ℕ). getD (writtenOver l before) j 0) e
 
--- the recursion's answer is the call's
-module _ (w h s percentile tolerance : ℕ) (first second grey grey′ counts counts′ : List ℕ) (r : Offset)
-    (a : SameFrame w h (frameOf w (drop 0 grey)) (greyFrame w first)) (b : SameFrame w h (frameOf w (drop (w * h) grey)) (greyFrame w second))
-    (aligns : Aligns 0 (w * h) w h s percentile tolerance 0 grey grey′ counts counts′ r) where
-  same : alignedIn 0 (w * h) w h s percentile tolerance grey ≡ pairResult w h s tolerance percentile first second
+-- the recursion's answer is that of the rasters
+module _ (preferred : List Offset) (S : Setup) (first second grey grey′ counts counts′ : List ℕ) (r : Offset)
+    (a : SameFrame (S .w) (S .h) (frameOf (S .w) (drop 0 grey)) (greyFrame (S .w) first))
+    (b : SameFrame (S .w) (S .h) (frameOf (S .w) (drop (S .w * S .h) grey)) (greyFrame (S .w) second))
+    (aligns : Aligns preferred S 0 (S .w * S .h) 0 grey grey′ counts counts′ r) where
+  same : alignedIn preferred S 0 (S .w * S .h) grey ≡ pairResult preferred S first second
   unfolding pairResult
   same =
-      pair-ext wardOrder (byTolerance tolerance) percentile s w h (frameOf w (drop 0 grey)) (greyFrame w first) (frameOf w (drop (w * h) grey)) (greyFrame w second) a b
+      pair-ext preferred (ruleOf (S .exclusion)) (S .percentile) (S .s) (S .w) (S .h)
+      (frameOf (S .w) (drop 0 grey)) (greyFrame (S .w) first) (frameOf (S .w) (drop (S .w * S .h) grey)) (greyFrame (S .w) second) a b
 
-  pub pair-offset : r ≡ pairResult w h s tolerance percentile first second .offset
+  pub pair-offset : r ≡ pairResult preferred S first second .offset
   pair-offset = aligns .offset ∙ ap (λ (x : Aligned). x .offset) same
 
-  pub pair-counts : 9 * (s + 1) ≤ length counts → counts′ ≡ writtenOver (pairResult w h s tolerance percentile first second .counts) counts
+  pub pair-counts : 9 * (S .s + 1) ≤ length counts → counts′ ≡ writtenOver (pairResult preferred S first second .counts) counts
   pair-counts room =
-      row-written (alignedIn 0 (w * h) w h s percentile tolerance grey .counts) counts counts′ (9 * (s + 1))
-      (counts-length percentile tolerance s w h (frameOf w (drop 0 grey)) (frameOf w (drop (w * h) grey))) room (aligns .written)
+      row-written (alignedIn preferred S 0 (S .w * S .h) grey .counts) counts counts′ (9 * (S .s + 1))
+      (counts-length preferred (ruleOf (S .exclusion)) (S .percentile) (S .s) (S .w) (S .h) (frameOf (S .w) (drop 0 grey)) (frameOf (S .w) (drop (S .w * S .h) grey)))
+      room (aligns .written)
       ∙ ap (λ (x : Aligned). writtenOver (x .counts) counts) same
 
 -- an accepted call gives the recursion what it needs
-pub pair-frames : (w h s tolerance percentile first second counts grey words : ℕ) → PairOk w h s tolerance percentile first second counts grey words
-    → Frames 0 (w * h) w h s grey
-pair-frames w h s tolerance percentile first second counts grey words k = record {
+pub pair-frames : (S : Setup) (first second counts grey words : ℕ) → PairOk (S .w) (S .h) (S .s) (S .percentile) first second counts grey words
+    → Frames 0 (S .w * S .h) S grey
+pair-frames S first second counts grey words k = record {
   wide = k .shape .wide;
   width = k .shape .size .width;
   high = k .shape .high;
   height = k .shape .size .height;
   halvings = k .shape .halvings;
+  least = k .least;
+  most = k .most;
   one = omega arith;
   two = omega arith;
   room = k .greys;

@@ -1,15 +1,16 @@
 // Alignment of a pair of rasters: the offered call.
 
-pub mod pairs;
+mod rasters;
 
-use count::ones::ONES;
-use grey::conversion::convert;
-use lending::pair_refusal;
-use pairs::align_frames;
+use align_refusals::pair_refusal;
+use candidates::WARD;
+use rasters::align_rasters;
+use refusals::tolerance_refusal;
+use rules::Exclusion;
 use rules::Paired;
-ghost use mathlib.Core.Path.{_≡_};
-ghost use Rattle.rules.specs.Answers.{paired, bufferAfter};
-ghost use Rattle.rules.specs.Calls.{pairNumber, pairResult};
+use rules::Setup;
+ghost use Rattle.rules.specs.Levels.{wardOrder};
+ghost use Rattle.rules.specs.Calls.{toleranceSetup, PairCall};
 
 // The offset that moves the second frame onto the first, and the counts of every level.
 pub fn pair(
@@ -24,15 +25,17 @@ pub fn pair(
     grey: &mut [u8],
     words: &mut [u64],
 ) -> Paired
-    ensures answer { λ r. ⌜ r ≡ paired (pairNumber w h s tolerance percentile (now (first .entry)) (now (second .entry)) (now (counts .entry)) (now (grey .entry)) (now (words .entry))) (pairResult w h s tolerance percentile (now (first .entry)) (now (second .entry)) .offset) ⌝ }
-    ensures counts { λ _. ⌜ now (counts .exit) ≡ bufferAfter (pairNumber w h s tolerance percentile (now (first .entry)) (now (second .entry)) (now (counts .entry)) (now (grey .entry)) (now (words .entry))) (pairResult w h s tolerance percentile (now (first .entry)) (now (second .entry)) .counts) (now (counts .entry)) ⌝ }
-    ensures memory { λ _. ⌜ ((pairNumber w h s tolerance percentile (now (first .entry)) (now (second .entry)) (now (counts .entry)) (now (grey .entry)) (now (words .entry)) ≡ 0 → ⊥) → (now (grey .exit) ≡ now (grey .entry)) × (now (words .exit) ≡ now (words .entry))) ⌝ }
+    ensures { λ r. ⌜
+        PairCall wardOrder (toleranceSetup w h s tolerance percentile) (now (first .entry)) (now (second .entry))
+        (now (counts .entry)) (now (counts .exit)) (now (grey .entry)) (now (grey .exit)) (now (words .entry)) (now (words .exit)) r
+        ⌝ }
 {
+    let excluded = tolerance_refusal(tolerance);
     let n = pair_refusal(
         w,
         h,
         s,
-        tolerance,
+        excluded,
         percentile,
         first.len(),
         second.len(),
@@ -43,22 +46,7 @@ pub fn pair(
     if n != 0 {
         return Paired::Refused(n);
     }
-    let area = w * h;
-    convert(first, area, grey, 0);
-    convert(second, area, grey, area);
-    let ones = ONES;
-    Paired::Moved(align_frames(
-        grey,
-        0,
-        area,
-        w,
-        h,
-        s,
-        percentile,
-        tolerance,
-        words,
-        counts,
-        0,
-        &ones,
-    ))
+    let setup = Setup { w, h, s, percentile, exclusion: Exclusion::Tolerance(tolerance) };
+    let order = WARD;
+    Paired::Moved(align_rasters(setup, first, second, counts, grey, words, &order))
 }
