@@ -2,10 +2,11 @@
 
 pub mod pairs;
 
+use align_refusals::pair_refusal;
 use count::ones::ONES;
 use frame::conversion::convert;
-use lending::pair_refusal;
 use pairs::align_frames;
+use refusals::tolerance_refusal;
 use rules::Paired;
 ghost use mathlib.Core.Path.{_≡_};
 ghost use Rattle.rules.specs.Answers.{paired, bufferAfter};
@@ -32,7 +33,7 @@ pub fn pair(
         w,
         h,
         s,
-        tolerance,
+        tolerance_refusal(tolerance),
         percentile,
         first.len(),
         second.len(),
