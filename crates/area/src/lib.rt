@@ -8,14 +8,16 @@ ghost use Rattle.rules.specs.Limits.{maxSide};
 ghost use Rattle.rules.specs.Refusals.{_when_};
 ghost use Rattle.area.specs.Sides.{offsetsRefusal, InRange};
 use ranges::some_outside;
-use refusals::size_refusal;
+use refusals::Faults;
+use refusals::NONE;
+use refusals::bad_frames;
+use refusals::bad_size;
+use refusals::lowest;
 use sides::high_side;
 use sides::low_side;
 
 mod ranges;
 mod sides;
-
-const MAX_FRAMES: usize = 16;
 
 // Columns from left up to right, rows from top up to bottom; right and bottom are not included.
 pub struct Area {
@@ -35,22 +37,18 @@ pub enum Common {
 fn offsets_refusal(w: usize, h: usize, n: usize, offsets: &[i32]) -> u32
     ensures { λ r. ⌜ r ≡ offsetsRefusal w h n (now (offsets .entry)) ⌝ }
 {
-    if size_refusal(w, h) != 0 {
+    if bad_size(w, h) {
         return 2;
     }
-    if n == 0 {
+    if bad_frames(n) {
         return 6;
     }
-    if MAX_FRAMES < n {
-        return 6;
-    }
-    if offsets.len() != 2 * n {
-        return 9;
-    }
-    if some_outside(offsets) {
-        return 12;
-    }
-    0
+    let numbers = 2 * n;
+    lowest(Faults {
+        length: offsets.len() != numbers,
+        offset: some_outside(offsets),
+        ..NONE
+    })
 }
 
 // The area that every frame has, from offsets that are near enough for their sums.

@@ -2,7 +2,10 @@
 
 ghost use mathlib.Core.Path.{_≡_};
 ghost use Rattle.blink.specs.Blink.{blinkRefusal, blinkRow, blinkAnswer};
-use refusals::size_refusal;
+use refusals::Faults;
+use refusals::NONE;
+use refusals::bad_size;
+use refusals::lowest;
 
 // The answer of the blink row's companion: where the row begins in the chosen raster.
 pub enum Row {
@@ -13,20 +16,15 @@ pub enum Row {
 fn blink_refusal(w: usize, h: usize, y: usize, first: usize, second: usize) -> u32
     ensures { λ r. ⌜ r ≡ blinkRefusal w h y first second ⌝ }
 {
-    if size_refusal(w, h) != 0 {
+    if bad_size(w, h) {
         return 2;
     }
-    let needed = 3 * (w * h);
-    if first != needed {
-        return 9;
-    }
-    if second != needed {
-        return 9;
-    }
-    if y < h {
-        return 0;
-    }
-    14
+    let bytes = 3 * (w * h);
+    lowest(Faults {
+        length: (first != bytes) | (second != bytes),
+        row: !(y < h),
+        ..NONE
+    })
 }
 
 // The companion of the blink row: where it begins, or why it is refused.

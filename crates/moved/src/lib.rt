@@ -4,7 +4,10 @@ ghost use mathlib.Core.Path.{_≡_};
 ghost use Rattle.moved.specs.Moved.{movedRefusal, movedAnswer, movedOut};
 use clipping::clip;
 use placing::place_rows;
-use refusals::size_refusal;
+use refusals::Faults;
+use refusals::NONE;
+use refusals::bad_size;
+use refusals::lowest;
 use rules::Written;
 
 mod clipping;
@@ -13,17 +16,15 @@ mod placing;
 fn moved_refusal(w: usize, h: usize, raster: usize, out: usize) -> u32
     ensures { λ r. ⌜ r ≡ movedRefusal w h raster out ⌝ }
 {
-    if size_refusal(w, h) != 0 {
+    if bad_size(w, h) {
         return 2;
     }
-    let needed = 3 * (w * h);
-    if raster != needed {
-        return 9;
-    }
-    if out < needed {
-        return 10;
-    }
-    0
+    let bytes = 3 * (w * h);
+    lowest(Faults {
+        length: raster != bytes,
+        room: out < bytes,
+        ..NONE
+    })
 }
 
 // The frame moved right by dx and down by dy, with 0,0,0 where nothing comes from inside.

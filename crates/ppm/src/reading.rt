@@ -4,6 +4,10 @@ use super::Header;
 use super::LARGEST;
 use super::MAGIC;
 use super::Size;
+use refusals::Faults;
+use refusals::NONE;
+use refusals::bad_size;
+use refusals::lowest;
 use text::Number;
 ghost use mathlib.Core.Path.{_≡_};
 ghost use Rattle.text.specs.Digits.{leading};
@@ -110,13 +114,15 @@ pub fn file_refusal(file: &[u8]) -> u32
     };
     let w = w as usize;
     let h = h as usize;
-    if refusals::size_refusal(w, h) != 0 {
+    if bad_size(w, h) {
         return 2;
     }
-    if file.len() - start != 3 * (w * h) {
-        return 9;
-    }
-    0
+    let bytes = 3 * (w * h);
+    let raster = file.len() - start;
+    lowest(Faults {
+        length: raster != bytes,
+        ..NONE
+    })
 }
 
 // Where the raster begins.

@@ -2,6 +2,10 @@
 
 use super::LARGEST;
 use super::MAGIC;
+use refusals::Faults;
+use refusals::NONE;
+use refusals::bad_size;
+use refusals::lowest;
 use text::digit_count;
 use text::put;
 use text::put_number;
@@ -23,16 +27,16 @@ fn header_length(w: u32, h: u32) -> usize
 pub fn write_refusal(w: usize, h: usize, raster: usize, out: usize) -> u32
     ensures { λ r. ⌜ r ≡ writeRefusal w h raster out ⌝ }
 {
-    if refusals::size_refusal(w, h) != 0 {
+    if bad_size(w, h) {
         return 2;
     }
-    if raster != 3 * (w * h) {
-        return 9;
-    }
-    if out < header_length(w as u32, h as u32) + raster {
-        return 10;
-    }
-    0
+    let bytes = 3 * (w * h);
+    let needed = header_length(w as u32, h as u32) + bytes;
+    lowest(Faults {
+        length: raster != bytes,
+        room: out < needed,
+        ..NONE
+    })
 }
 
 // A number and the whitespace after it, put at place `at`.

@@ -3,8 +3,9 @@
 pub mod runs;
 pub mod twice;
 
-use lending::series_refusal;
+use align_refusals::series_refusal;
 use offsets::sum_about;
+use refusals::tolerance_refusal;
 use rules::Written;
 use runs::align_pairs;
 ghost use mathlib.Core.Path.{_≡_};
@@ -36,7 +37,7 @@ pub fn series(
         w,
         h,
         s,
-        tolerance,
+        tolerance_refusal(tolerance),
         n,
         r,
         percentiles,

@@ -1,93 +1,65 @@
--- Each return rewrites with the tests on the way there.
+-- The number of frames keeps the product from overflowing; the flags are the definition's conditions.
 use mathlib.Core.Path.{sym, _∙_}
-use borrow.Author.Tests.{lt-ltb, le-ltb, eq-eqb, ne-eqb}
 use native.Mathlib.Omega.{arith}
+use lib.Dec.{ltb, eqb}
 use borrow.Author.Needs.{needs}
-use Rattle.rules.specs.Refusals.{badSize, badFrames}
-use Rattle.rules.proofs.RefusalLaws.{told-yes, told-no}
+use borrow.Author.Tests.{ltb-false}
+use Rattle.rules.specs.Limits.{maxFrames}
+use Rattle.rules.specs.Refusals.{badFrames}
+use Rattle.rules.proofs.RefusalLaws.{or-no, orElse-none}
 use Rattle.area.specs.Sides.{offsetsRefusal}
 use Rattle.area.proofs.offsets_refusal.Statement.{statement}
 use Rattle.area.proofs.offsets_refusal.Tie as tie
 
-size-refusal-requires : tie.Need-size-refusal-requires
-size-refusal-requires c κs = search needs
+bad-size-requires : tie.Need-bad-size-requires
+bad-size-requires c κs = search needs
 
 returns : tie.Need-returns
 unfolding offsetsRefusal
-returns c =
-    let a = c .before .before .args in
-    simp (told-yes 2 _ (badSize (a .w) (a .h)) (c .before .size-refusal .ensures) (c .if1 .taken))
+returns c = simp (sym (c .before .bad-size .ensures) ∙ c .if1 .taken)
+
+bad-frames-requires : tie.Need-bad-frames-requires
+bad-frames-requires c κs = search needs
 
 returns-2 : tie.Need-returns-2
-unfolding offsetsRefusal badFrames
+unfolding offsetsRefusal
 returns-2 c =
-    let a = c .before .before .before .args in
-    simp (
-      told-no 2 _ (badSize (a .w) (a .h)) (omega arith) (c .before .before .size-refusal .ensures) (c .before .if1 .left),
-      eq-eqb _ _ (c .if2 .taken),
-    )
+    let e = c .before .before in
+    simp (sym (e .before .bad-size .ensures) ∙ e .if1 .left, sym (c .before .bad-frames .ensures) ∙ c .if2 .taken)
 
-returns-3 : tie.Need-returns-3
-unfolding offsetsRefusal badFrames
-returns-3 c =
-    let a = c .before .before .before .before .args in
-    simp (
-      told-no 2 _ (badSize (a .w) (a .h)) (omega arith) (c .before .before .before .size-refusal .ensures) (c .before .before .if1 .left),
-      ne-eqb _ _ (c .before .if2 .left),
-      lt-ltb _ _ (c .if3 .taken),
-    )
-
-mul-if4 : tie.Need-mul-if4
-mul-if4 c = search needs
-
-returns-4 : tie.Need-returns-4
-unfolding offsetsRefusal badFrames
-returns-4 c =
-    let a = c .before .before .before .before .before .args in
-    simp (
-      told-no 2 _ (badSize (a .w) (a .h)) (omega arith) (c .before .before .before .before .size-refusal .ensures) (c .before .before .before .if1 .left),
-      ne-eqb _ _ (c .before .before .if2 .left),
-      le-ltb _ _ (c .before .if3 .left),
-      ne-eqb _ _ (c .if4 .taken),
-    )
+mul-numbers : tie.Need-mul-numbers
+unfolding badFrames
+mul-numbers c =
+    let n = c .before .before .before .before .args .n in
+    let p = or-no (eqb n 0) (ltb maxFrames n) (sym (c .before .bad-frames .ensures) ∙ c .if2 .left) in
+    omega (arith, ltb-false maxFrames n (p .1))
 
 some-outside-requires : tie.Need-some-outside-requires
 some-outside-requires c κs = search needs
 
-returns-5 : tie.Need-returns-5
-unfolding offsetsRefusal badFrames
-returns-5 c =
-    let a = c .before .before .before .before .before .before .before .args in
-    simp (
-      told-no 2 _ (badSize (a .w) (a .h)) (omega arith) (c .before .before .before .before .before .before .size-refusal .ensures) (c .before .before .before .before .before .if1 .left),
-      ne-eqb _ _ (c .before .before .before .before .if2 .left),
-      le-ltb _ _ (c .before .before .before .if3 .left),
-      eq-eqb _ _ (c .before .before .if4 .left),
-      sym (c .before .some-outside .ensures) ∙ c .if5 .taken,
-    )
+lowest-requires : tie.Need-lowest-requires
+lowest-requires c κs = search needs
 
-returns-6 : tie.Need-returns-6
-unfolding offsetsRefusal badFrames
-returns-6 c =
-    let a = c .before .before .before .before .before .before .before .args in
+returns-3 : tie.Need-returns-3
+unfolding offsetsRefusal
+returns-3 c =
+    let f = c .before .before in
+    let e = f .before .before in
     simp (
-      told-no 2 _ (badSize (a .w) (a .h)) (omega arith) (c .before .before .before .before .before .before .size-refusal .ensures) (c .before .before .before .before .before .if1 .left),
-      ne-eqb _ _ (c .before .before .before .before .if2 .left),
-      le-ltb _ _ (c .before .before .before .if3 .left),
-      eq-eqb _ _ (c .before .before .if4 .left),
-      sym (c .before .some-outside .ensures) ∙ c .if5 .left,
-    )
+      sym (e .before .bad-size .ensures) ∙ e .if1 .left,
+      sym (f .before .bad-frames .ensures) ∙ f .if2 .left,
+      ← c .before .some-outside .ensures,
+    ) (simp orElse-none at (c .lowest .ensures))
 
 pub offsets-refusal-spec : {M : Type 1} → statement M
 offsets-refusal-spec =
     tie.close
     (tie.spec
-    size-refusal-requires
+    bad-size-requires
     returns
+    bad-frames-requires
     returns-2
-    returns-3
-    mul-if4
-    returns-4
+    mul-numbers
     some-outside-requires
-    returns-5
-    returns-6)
+    lowest-requires
+    returns-3)

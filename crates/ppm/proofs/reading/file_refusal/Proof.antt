@@ -1,9 +1,7 @@
 -- Each return rewrites with the header and with the tests on the way there; a good header ends in the file.
 use mathlib.Core.Path.{_≡_, sym, _∙_}
-use borrow.Author.Tests.{eq-eqb, ne-eqb}
-use Rattle.rules.specs.Refusals.{badSize}
 use Rattle.rules.specs.Accepted.{SizeOk}
-use Rattle.rules.proofs.RefusalLaws.{told-yes, told-no, size-told}
+use Rattle.rules.proofs.RefusalLaws.{orElse-none, size-known}
 use Rattle.ppm.specs.declared.Header.{Header}
 use Rattle.ppm.specs.P6.{headerOf, headerRefusal, p6Refusal}
 use Rattle.ppm.proofs.HeaderLaws.{good-within}
@@ -18,9 +16,7 @@ good : (c : tie.After-known-told)
 good c = sym (c .before .before .before .parse .ensures) ∙ c .before .w .given .1
 
 sized : (c : tie.Else1) → let v = c .before .before .before .w .given .0 in SizeOk (v .0) (v .1 .0)
-sized c =
-    let v = c .before .before .before .w .given .0 in
-    size-told (v .0) (v .1 .0) _ (c .before .size-refusal .ensures) (c .if1 .left)
+sized c = size-known _ _ _ (c .before .bad-size .ensures) (c .if1 .left)
 
 parse-requires : tie.Need-parse-requires
 parse-requires c κs = search needs
@@ -41,42 +37,30 @@ cast-w c = search needs
 cast-h : tie.Need-cast-h
 cast-h c = search needs
 
-size-refusal-requires : tie.Need-size-refusal-requires
-size-refusal-requires c κs = search needs
+bad-size-requires : tie.Need-bad-size-requires
+bad-size-requires c κs = search needs
 
 returns-2 : tie.Need-returns-2
 unfolding p6Refusal headerRefusal
-returns-2 c =
-    let k = c .before .before in
-    let v = k .before .w .given .0 in
-    rw (good k, told-yes 2 _ (badSize (v .0) (v .1 .0)) (c .before .size-refusal .ensures) (c .if1 .taken))
+returns-2 c = rw (good (c .before .before), sym (c .before .bad-size .ensures) ∙ c .if1 .taken)
 
-sub-if2 : tie.Need-sub-if2
-sub-if2 c =
-    let k = c .before .before in
-    good-within _ _ _ _ (good k)
+mul-bytes : tie.Need-mul-bytes
+mul-bytes c = omega (arith, sized c)
 
-mul-if2 : tie.Need-mul-if2
-mul-if2 c = omega (arith, sized c)
+mul-bytes-2 : tie.Need-mul-bytes-2
+mul-bytes-2 c = omega (arith, sized c)
 
-mul-if2-2 : tie.Need-mul-if2-2
-mul-if2-2 c = omega (arith, sized c)
+sub-raster : tie.Need-sub-raster
+sub-raster c = good-within _ _ _ _ (good (c .before .before))
+
+lowest-requires : tie.Need-lowest-requires
+lowest-requires c κs = search needs
 
 returns-3 : tie.Need-returns-3
 unfolding p6Refusal headerRefusal
 returns-3 c =
     let e = c .before in
-    let k = e .before .before in
-    let v = k .before .w .given .0 in
-    rw (good k, told-no 2 _ (badSize (v .0) (v .1 .0)) (omega arith) (e .before .size-refusal .ensures) (e .if1 .left), ne-eqb _ _ (c .if2 .taken))
-
-returns-4 : tie.Need-returns-4
-unfolding p6Refusal headerRefusal
-returns-4 c =
-    let e = c .before in
-    let k = e .before .before in
-    let v = k .before .w .given .0 in
-    rw (good k, told-no 2 _ (badSize (v .0) (v .1 .0)) (omega arith) (e .before .size-refusal .ensures) (e .if1 .left), eq-eqb _ _ (c .if2 .left))
+    rw (good (e .before .before), sym (e .before .bad-size .ensures) ∙ e .if1 .left) (simp orElse-none at (c .lowest .ensures))
 
 pub file-refusal-spec : {M : Type 1} → statement M
 file-refusal-spec =
@@ -88,10 +72,10 @@ file-refusal-spec =
     returns
     cast-w
     cast-h
-    size-refusal-requires
+    bad-size-requires
     returns-2
-    sub-if2
-    mul-if2
-    mul-if2-2
-    returns-3
-    returns-4)
+    mul-bytes
+    mul-bytes-2
+    sub-raster
+    lowest-requires
+    returns-3)

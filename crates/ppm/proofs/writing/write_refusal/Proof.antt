@@ -1,12 +1,9 @@
--- Each return rewrites with the tests on the way there; products and casts fit since the sizes are within their limits.
-use Prim.Native.Nat.{_+_, _*_}
-use lib.ListN.{length}
-use borrow.Author.Tests.{lt-ltb, le-ltb, eq-eqb, ne-eqb}
+-- Products and casts fit since the sizes are within their limits; the flags are the definition's conditions.
+use mathlib.Core.Path.{sym, _∙_}
 use Rattle.text.proofs.DigitLaws.{digits-at-most-ten}
-use Rattle.rules.specs.Refusals.{badSize}
 use Rattle.rules.specs.Accepted.{SizeOk}
-use Rattle.rules.proofs.RefusalLaws.{told-yes, told-no, size-told}
-use Rattle.ppm.specs.P6.{header, writeRefusal}
+use Rattle.rules.proofs.RefusalLaws.{orElse-none, size-known}
+use Rattle.ppm.specs.P6.{writeRefusal}
 use Rattle.ppm.proofs.WriteLaws.{length-header}
 use native.Mathlib.Omega.{arith}
 use borrow.Author.Needs.{needs}
@@ -14,82 +11,55 @@ use Rattle.ppm.proofs.writing.write_refusal.Statement.{statement}
 use Rattle.ppm.proofs.writing.write_refusal.Tie as tie
 
 sized : (c : tie.Else1) → let a = c .before .before .args in SizeOk (a .w) (a .h)
-sized c =
-    let a = c .before .before .args in
-    size-told (a .w) (a .h) _ (c .before .size-refusal .ensures) (c .if1 .left)
+sized c = size-known _ _ _ (c .before .bad-size .ensures) (c .if1 .left)
 
-size-refusal-requires : tie.Need-size-refusal-requires
-size-refusal-requires c κs = search needs
+bad-size-requires : tie.Need-bad-size-requires
+bad-size-requires c κs = search needs
 
 returns : tie.Need-returns
 unfolding writeRefusal
-returns c =
-    let a = c .before .before .args in
-    simp (told-yes 2 _ (badSize (a .w) (a .h)) (c .before .size-refusal .ensures) (c .if1 .taken))
+returns c = simp (sym (c .before .bad-size .ensures) ∙ c .if1 .taken)
 
-mul-if2 : tie.Need-mul-if2
-mul-if2 c = omega (arith, sized c)
+mul-bytes : tie.Need-mul-bytes
+mul-bytes c = omega (arith, sized c)
 
-mul-if2-2 : tie.Need-mul-if2-2
-mul-if2-2 c = omega (arith, sized c)
-
-returns-2 : tie.Need-returns-2
-unfolding writeRefusal
-returns-2 c =
-    let a = c .before .before .before .args in
-    simp (
-      told-no 2 _ (badSize (a .w) (a .h)) (omega arith) (c .before .before .size-refusal .ensures) (c .before .if1 .left),
-      ne-eqb _ _ (c .if2 .taken),
-    )
+mul-bytes-2 : tie.Need-mul-bytes-2
+mul-bytes-2 c = omega (arith, sized c)
 
 cast-header-length : tie.Need-cast-header-length
-cast-header-length c = omega (arith, sized (c .before))
+cast-header-length c = omega (arith, sized c)
 
 cast-header-length-2 : tie.Need-cast-header-length-2
-cast-header-length-2 c = omega (arith, sized (c .before))
+cast-header-length-2 c = omega (arith, sized c)
 
 header-length-requires : tie.Need-header-length-requires
 header-length-requires c κs = search needs
 
-add-if3 : tie.Need-add-if3
-add-if3 c =
-    let a = c .before .before .before .before .args in
-    omega (arith, sized (c .before .before), length-header (a .w) (a .h), digits-at-most-ten (a .w), digits-at-most-ten (a .h), digits-at-most-ten 255)
+add-needed : tie.Need-add-needed
+add-needed c =
+    let a = c .before .before .before .args in
+    omega (arith, sized (c .before), length-header (a .w) (a .h), digits-at-most-ten (a .w), digits-at-most-ten (a .h), digits-at-most-ten 255)
 
-returns-3 : tie.Need-returns-3
-unfolding writeRefusal
-returns-3 c =
-    let e = c .before .before in
-    let a = e .before .before .before .args in
-    simp (
-      told-no 2 _ (badSize (a .w) (a .h)) (omega arith) (e .before .before .size-refusal .ensures) (e .before .if1 .left),
-      eq-eqb _ _ (e .if2 .left),
-      lt-ltb (a .out) (length (header (a .w) (a .h)) + 3 * (a .w * a .h)) (omega arith),
-    )
+lowest-requires : tie.Need-lowest-requires
+lowest-requires c κs = search needs
 
-returns-4 : tie.Need-returns-4
+returns-2 : tie.Need-returns-2
 unfolding writeRefusal
-returns-4 c =
+returns-2 c =
     let e = c .before .before in
-    let a = e .before .before .before .args in
-    simp (
-      told-no 2 _ (badSize (a .w) (a .h)) (omega arith) (e .before .before .size-refusal .ensures) (e .before .if1 .left),
-      eq-eqb _ _ (e .if2 .left),
-      le-ltb (a .out) (length (header (a .w) (a .h)) + 3 * (a .w * a .h)) (omega arith),
-    )
+    simp (sym (e .before .bad-size .ensures) ∙ e .if1 .left, ← c .before .header-length .ensures) (simp orElse-none at (c .lowest .ensures))
 
 pub write-refusal-spec : {M : Type 1} → statement M
 write-refusal-spec =
     tie.close
     (tie.spec
-    size-refusal-requires
+    bad-size-requires
     returns
-    mul-if2
-    mul-if2-2
-    returns-2
+    mul-bytes
+    mul-bytes-2
     cast-header-length
     cast-header-length-2
     header-length-requires
-    add-if3
-    returns-3
-    returns-4)
+    add-needed
+    lowest-requires
+    returns-2)

@@ -8,11 +8,11 @@ use borrow.Author.Needs.{needs}
 use Prim.Native.Nat.{ℕ, _-_, _/_, _<_}
 use borrow.Fn.Kinds.{In}
 use borrow.Fn.PlainCycle.{Measures, is, falls, and}
-use Rattle.lending.proofs.level_pixels.Reads as level-pixels
-use Rattle.lending.proofs.level_pixels.Kinds as level-pixels-kinds
-use Rattle.lending.proofs.+level_pixels.Lts-level_pixels as level-pixels-lts
-use Rattle.lending.proofs.+level_pixels.{statement}
-use Rattle.lending.proofs.+level_pixels.Tie.{close}
+use Rattle.align_refusals.proofs.level_pixels.Reads as level-pixels
+use Rattle.align_refusals.proofs.level_pixels.Kinds as level-pixels-kinds
+use Rattle.align_refusals.proofs.+level_pixels.Lts-level_pixels as level-pixels-lts
+use Rattle.align_refusals.proofs.+level_pixels.{statement}
+use Rattle.align_refusals.proofs.+level_pixels.Tie.{close}
 
 abbrev μ-level-pixels : Measures 0 level-pixels-kinds.ps ℕ
 μ-level-pixels κs a = a .1 .1 .0

@@ -1,2 +1,2 @@
 -- Laws of the walk over the percentiles, and of the shortest side.
-pub mod LendingLaws
+pub mod AlignRefusalLaws

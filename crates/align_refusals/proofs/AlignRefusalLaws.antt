@@ -1,0 +1,56 @@
+-- Laws of the numbers that stand first, of the shortest side that s halvings allow, of a bitmap's length, and of the walk over the percentiles.
+use mathlib.Core.Path.{_≡_, sym, _∙_}
+use mathlib.Core.Bool.{true, false}
+use mathlib.Core.List.{List}
+use Prim.Native.Nat.{ℕ, _+_, _*_, _%_, _^_, _≤_, _<_}
+use native.Mathlib.Nat.{mul-comm, mul-le-mul}
+use native.Mathlib.Numerals.{add-one}
+use native.Mathlib.Omega.{arith}
+use lib.Pow.{shl-exact, pow-add}
+use lib.ListN.{length, drop, getD, drop-of-length-le}
+use lib.Seq.{drop-cons}
+use Rattle.rules.specs.Bitmaps.{rowWords}
+use Rattle.rules.specs.Refusals.{_when_, _orElse_, badSize, badHalvings, tooSmall, shapeRefusal, badFrames, badReference, badPercentile, someBadPercentile}
+use Rattle.rules.proofs.AlignmentLaws.{first-of-three, none-of-three}
+
+-- The shape's number k stands before the rest where it is not 0, else the rest is left.
+pub shape-first : (w h s k rest : ℕ) → k ≡ shapeRefusal w h s → (k ≡ 0 → ⊥)
+    → k ≡ 2 when badSize w h orElse 3 when badHalvings s orElse 4 when tooSmall w h s orElse rest
+shape-first w h s k = first-of-three k (2 when badSize w h) (3 when badHalvings s) (4 when tooSmall w h s)
+
+pub shape-pass : (w h s k : ℕ) → k ≡ shapeRefusal w h s → k ≡ 0 → (rest : ℕ)
+    → 2 when badSize w h orElse 3 when badHalvings s orElse 4 when tooSmall w h s orElse rest ≡ rest
+shape-pass w h s k e z rest = sym (none-of-three k (2 when badSize w h) (3 when badHalvings s) (4 when tooSmall w h s) rest e z)
+
+-- The same of the number of the exclusion, the frames and the reference.
+pub frames-first : (excluded n r k rest : ℕ) → k ≡ excluded orElse 6 when badFrames n orElse 7 when badReference n r → (k ≡ 0 → ⊥)
+    → k ≡ excluded orElse 6 when badFrames n orElse 7 when badReference n r orElse rest
+frames-first excluded n r k = first-of-three k excluded (6 when badFrames n) (7 when badReference n r)
+
+pub frames-pass : (excluded n r k : ℕ) → k ≡ excluded orElse 6 when badFrames n orElse 7 when badReference n r → k ≡ 0 → (rest : ℕ)
+    → excluded orElse 6 when badFrames n orElse 7 when badReference n r orElse rest ≡ rest
+frames-pass excluded n r k e z rest = sym (none-of-three k excluded (6 when badFrames n) (7 when badReference n r) rest e z)
+
+-- the shift loses no bit
+pub shortest-side : (s : ℕ) → s ≤ 8 → 4 * 2 ^ s % 2 ^ 64 ≡ 2 ^ (s + 2)
+shortest-side s l = shl-exact {a = 4} 3 s 64 (omega arith) (omega arith) ∙ mul-comm 4 (2 ^ s) ∙ sym (pow-add 2 s 2)
+
+-- a bitmap's words
+pub bitmap-fit : (w h : ℕ) → w ≤ 4096 → h ≤ 4096 → rowWords w * h ≤ 262144
+unfolding rowWords
+bitmap-fit w h v u = let n : rowWords w ≤ 64 = omega arith in mul-le-mul n u
+
+-- The percentiles passed are good, so the rest decides whether one is bad.
+pub bad-rest : (ps : List ℕ) (k : ℕ) → k < length ps → someBadPercentile ps ≡ someBadPercentile (drop k ps) → badPercentile (getD ps k 0) ≡ false
+    → someBadPercentile ps ≡ someBadPercentile (drop (k + 1) ps)
+unfolding someBadPercentile
+bad-rest ps k l e b = e ∙ rw (add-one, drop-cons ps k 0, b)
+
+pub bad-here : (ps : List ℕ) (k : ℕ) → k < length ps → someBadPercentile ps ≡ someBadPercentile (drop k ps) → badPercentile (getD ps k 0) ≡ true
+    → someBadPercentile ps ≡ true
+unfolding someBadPercentile
+bad-here ps k l e b = e ∙ rw (drop-cons ps k 0, b)
+
+pub bad-none : (ps : List ℕ) (k : ℕ) → length ps ≤ k → someBadPercentile ps ≡ someBadPercentile (drop k ps) → someBadPercentile ps ≡ false
+unfolding someBadPercentile
+bad-none ps k l e = e ∙ rw (drop-of-length-le)
