@@ -9,9 +9,9 @@ use lib.Signed.{ltZ}
 use Rattle.rules.specs.Refusals.{_when_, badSize, wrongLength, rasterLength}
 use Rattle.rules.proofs.RefusalLaws.{size-ok, orElse-no}
 use Rattle.rules.proofs.OffsetLaws.{abs-add}
-use Rattle.ppm.specs.declared.Size.{Size}
-use Rattle.ppm.specs.declared.Header.{Header}
-use Rattle.ppm.specs.P6.{headerOf, headerRefusal, p6Refusal, sizeIn}
+use Rattle.ppm_read.specs.declared.Size.{Size}
+use Rattle.ppm_read.specs.declared.Header.{Header}
+use Rattle.ppm_read.specs.P6.{headerOf, headerRefusal, p6Refusal, sizeIn}
 use Rattle.area.specs.declared.Area.{Area}
 use Rattle.area.specs.Common.{dxOf, dyOf, larger, smaller, lowSide, highSide, nothingCommon, areaRefusal, commonArea}
 use Rattle.area.specs.Sides.{offsetsRefusal}

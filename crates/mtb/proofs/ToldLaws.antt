@@ -8,10 +8,11 @@ use Rattle.rules.specs.declared.Thresholded.{Thresholded}
 use Rattle.rules.specs.declared.Offset.{Offset}
 use Rattle.rules.specs.declared.Paired.{Paired}
 use Rattle.rules.specs.Answers.{written, counted, thresholded, paired}
-use Rattle.ppm.specs.declared.Size.{Size}
-use Rattle.ppm.specs.declared.Held.{Held}
-use Rattle.ppm.specs.declared.Stored.{Stored}
-use Rattle.ppm.specs.P6.{held, stored}
+use Rattle.ppm_read.specs.declared.Size.{Size}
+use Rattle.ppm_read.specs.declared.Held.{Held}
+use Rattle.ppm_write.specs.declared.Stored.{Stored}
+use Rattle.ppm_read.specs.P6.{held}
+use Rattle.ppm_write.specs.P6Writes.{stored}
 use Rattle.area.specs.declared.Area.{Area}
 use Rattle.area.specs.declared.Common.{Common}
 use Rattle.area.specs.Common.{common}

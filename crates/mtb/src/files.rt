@@ -2,15 +2,16 @@
 
 ghost use mathlib.Core.Path.{_≡_};
 ghost use lib.ListN.{length};
-ghost use Rattle.ppm.specs.P6.{headerOf, p6Refusal, sizeIn, startIn, rasterOf, p6File, writeRefusal, writeOut};
+ghost use Rattle.ppm_read.specs.P6.{headerOf, p6Refusal, sizeIn, startIn, rasterOf};
+ghost use Rattle.ppm_write.specs.P6Writes.{p6File, writeRefusal, writeOut};
 ghost use Rattle.mtb.specs.Told.{valueAfter};
-use ppm::Held;
-use ppm::Stored;
-use ppm::p6_raster;
-use ppm::p6_size;
-use ppm::p6_write;
-use ppm::reading::file_refusal;
-use ppm::reading::raster_start;
+use ppm_read::Held;
+use ppm_read::p6_raster;
+use ppm_read::p6_size;
+use ppm_read::reading::file_refusal;
+use ppm_read::reading::raster_start;
+use ppm_write::Stored;
+use ppm_write::p6_write;
 
 #[no_mangle]
 pub extern "C" fn mtb_p6_size(file: &[u8], w: &mut u32, h: &mut u32) -> u32

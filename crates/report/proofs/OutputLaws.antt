@@ -17,9 +17,9 @@ use Rattle.rules.specs.Calls.{pairResult}
 use Rattle.rules.specs.Accepted.{PairOk}
 use Rattle.rules.proofs.AlignmentLaws.{pair-ok}
 use Rattle.align.proofs.AlignLaws.{counts-length}
-use Rattle.ppm.specs.declared.Size.{Size}
-use Rattle.ppm.specs.declared.Held.{Held}
-use Rattle.ppm.specs.P6.{headerOf, sizeIn, p6Refusal, rasterOf, held, sizeAnswer}
+use Rattle.ppm_read.specs.declared.Size.{Size}
+use Rattle.ppm_read.specs.declared.Held.{Held}
+use Rattle.ppm_read.specs.P6.{headerOf, sizeIn, p6Refusal, rasterOf, held, sizeAnswer}
 use Rattle.report.specs.declared.Settings.{Settings}
 use Rattle.report.specs.SettingsLine.{settingsOf}
 use Rattle.report.specs.Output.{settingsText, refusedText, offsetText, levelsText, alignedText, countsLent, greyLent, wordsLent, secondRaster, bracketRefusal, answerText, filesText, asRead, outputBy, bracketOutput}

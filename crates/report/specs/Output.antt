@@ -10,7 +10,7 @@ use Rattle.rules.specs.Levels.{Aligned}
 use Rattle.rules.specs.Refusals.{_orElse_, countsLength, pairRefusal}
 use Rattle.rules.specs.Limits.{maxHalvings}
 use Rattle.rules.specs.Calls.{pairResult}
-use Rattle.ppm.specs.P6.{headerOf, sizeIn, p6Refusal, rasterOf}
+use Rattle.ppm_read.specs.P6.{headerOf, sizeIn, p6Refusal, rasterOf}
 use Rattle.report.specs.declared.Settings.{Settings}
 use Rattle.report.specs.SettingsLine.{settingsOf}
 

@@ -6,8 +6,8 @@ use lib.Dec.{eqb}
 use lib.ListN.{length}
 use Rattle.rules.specs.Refusals.{pairRefusal}
 use Rattle.rules.specs.Calls.{pairResult}
-use Rattle.ppm.specs.declared.Size.{Size}
-use Rattle.ppm.specs.P6.{rasterOf}
+use Rattle.ppm_read.specs.declared.Size.{Size}
+use Rattle.ppm_read.specs.P6.{rasterOf}
 use Rattle.report.specs.Output.{alignedText, countsLent, greyLent, wordsLent, answerText}
 
 unfoldable pub pairText : Size → ℕ → ℕ → ℕ → List ℕ → List ℕ → List ℕ

@@ -2,8 +2,8 @@
 use mathlib.Core.Path.{_≡_, sym, ap, _∙_}
 use native.Mathlib.Omega.{arith}
 use borrow.Author.Needs.{needs}
-use Rattle.ppm.specs.declared.Size.{Size}
-use Rattle.ppm.specs.P6.{headerOf, p6Refusal, sizeIn}
+use Rattle.ppm_read.specs.declared.Size.{Size}
+use Rattle.ppm_read.specs.P6.{headerOf, p6Refusal, sizeIn}
 use Rattle.mtb.proofs.FitLaws.{SmallSize, size-small}
 use Rattle.mtb.proofs.ToldLaws.{held-frame, held-refused, told-accepted, told-refused}
 use Rattle.mtb.proofs.files.mtb_p6_size.Statement.{statement}

@@ -1,8 +1,8 @@
 -- Each return is a law of the decision, from what the two companions have answered.
 use mathlib.Core.Path.{_≡_, sym, _∙_}
 use borrow.Author.Needs.{needs}
-use Rattle.ppm.specs.declared.Held.{Held}
-use Rattle.ppm.specs.P6.{sizeAnswer}
+use Rattle.ppm_read.specs.declared.Held.{Held}
+use Rattle.ppm_read.specs.P6.{sizeAnswer}
 use Rattle.report.proofs.OutputLaws.{first-refused, second-refused, both-good}
 use Rattle.report.proofs.files.put_files.Statement.{statement}
 use Rattle.report.proofs.files.put_files.Tie as tie

@@ -1,0 +1,48 @@
+-- A refused file has an empty part; the raster of any other one begins in the file or at its end, and is all the rest.
+use mathlib.Core.Path.{sym, _∙_}
+use Rattle.ppm_read.proofs.FieldLaws.{rest-whole}
+use Rattle.ppm_read.proofs.HeaderLaws.{start-within, part-refused}
+use native.Mathlib.Omega.{arith}
+use borrow.Author.Needs.{needs}
+use Rattle.ppm_read.proofs.p6_raster.Statement.{statement}
+use Rattle.ppm_read.proofs.p6_raster.Tie as tie
+
+file-refusal-requires : tie.Need-file-refusal-requires
+file-refusal-requires c κs = search needs
+
+slice-aggregate-result : tie.Need-slice-aggregate-result
+slice-aggregate-result c = search needs
+
+returns : tie.Need-returns
+returns c = rw (← c .before .before .file-refusal .ensures) (part-refused _ _ (c .before .if1 .taken))
+
+raster-start-requires : tie.Need-raster-start-requires
+raster-start-requires c κs = search needs
+
+sub-result : tie.Need-sub-result
+sub-result c = omega (arith, start-within (c .before .before .before .before .args .file .now))
+
+part-result-start : tie.Need-part-result-start
+part-result-start c = omega (arith, start-within (c .before .before .before .before .args .file .now))
+
+part-result-end : tie.Need-part-result-end
+part-result-end c = search needs
+
+returns-2 : tie.Need-returns-2
+returns-2 c =
+    let e = c .before .before in
+    let file = e .before .before .before .args .file .now in
+    rw (sym (e .before .file-refusal .ensures) ∙ e .if1 .left, rest-whole file (c .before .raster-start .result), c .before .raster-start .ensures)
+
+pub p6-raster-spec : {M : Type 1} → statement M
+p6-raster-spec =
+    tie.close
+    (tie.spec
+    file-refusal-requires
+    slice-aggregate-result
+    returns
+    raster-start-requires
+    sub-result
+    part-result-start
+    part-result-end
+    returns-2)

@@ -1,0 +1,2 @@
+-- P6 files: how they are read.
+pub mod P6

@@ -1,0 +1,52 @@
+// The reader of P6 files (Netpbm's ppm): the offered calls.
+
+pub mod reading;
+
+ghost use mathlib.Core.Path.{_≡_};
+ghost use Rattle.ppm_read.specs.P6.{rasterOf, sizeAnswer};
+
+// A frame's width and height.
+pub struct Size {
+    pub w: usize,
+    pub h: usize,
+}
+
+// The answer of the reader's companion: the size of the frame that a file holds.
+pub enum Held {
+    Frame(Size),
+    Refused(u32),
+}
+
+// What a file's first bytes say: the size, and where the raster begins.
+pub enum Header {
+    Good { w: u32, h: u32, start: usize },
+    Bad,
+}
+
+// The bytes that every P6 file begins with.
+pub const MAGIC: [u8; 2] = *b"P6";
+
+// The largest value of a sample, the only one that is read and written.
+pub const LARGEST: u32 = 255;
+
+// The raster of a P6 file, as the part of the file's bytes that it is; empty when refused.
+pub fn p6_raster(file: &[u8]) -> &[u8]
+    ensures { λ r. ⌜ now r ≡ rasterOf (now (file .entry)) ⌝ }
+{
+    if reading::file_refusal(file) != 0 {
+        return &file[..0];
+    }
+    let start = reading::raster_start(file);
+    &file[start..]
+}
+
+// The companion: the size of the frame that a P6 file holds.
+pub fn p6_size(file: &[u8]) -> Held
+    ensures { λ r. ⌜ r ≡ sizeAnswer (now (file .entry)) ⌝ }
+{
+    let n = reading::file_refusal(file);
+    if n != 0 {
+        return Held::Refused(n);
+    }
+    Held::Frame(reading::frame_size(file))
+}

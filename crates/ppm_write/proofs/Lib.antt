@@ -1,0 +1,3 @@
+-- Laws of the writer, and of what it wrote read again.
+pub mod P6WriteLaws
+pub mod RoundTripLaw

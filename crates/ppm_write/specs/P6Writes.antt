@@ -1,0 +1,33 @@
+-- P6 files (Netpbm, document "ppm") as they are written, by document 01.
+use mathlib.Core.List.{List, [], _∷_, _++_}
+use Prim.Native.Nat.{ℕ, zero, suc, _+_}
+use lib.ListN.{length}
+use Rattle.text.specs.Digits.{digits}
+use Rattle.rules.specs.Refusals.{_when_, _orElse_, badSize, wrongLength, short, rasterLength}
+use Rattle.rules.specs.Answers.{bufferAfter}
+use Rattle.ppm_read.specs.P6.{magic}
+use Rattle.ppm_write.specs.declared.Stored.{Stored}
+
+-- The writer: "one byte 10 for each whitespace but a 32 between width and height, no leading zeros".
+unfoldable pub header : ℕ → ℕ → List ℕ
+header w h = magic ++ (10 ∷ []) ++ digits w ++ (32 ∷ []) ++ digits h ++ (10 ∷ []) ++ digits 255 ++ (10 ∷ [])
+
+abbrev pub p6File : ℕ → ℕ → List ℕ → List ℕ
+p6File w h raster = header w h ++ raster
+
+unfoldable pub writeRefusal : ℕ → ℕ → ℕ → ℕ → ℕ
+writeRefusal w h raster out =
+    2 when badSize w h
+    orElse 9 when wrongLength (rasterLength w h) raster
+    orElse 10 when short (length (header w h) + rasterLength w h) out
+
+abbrev pub stored : ℕ → ℕ → Stored
+stored zero n = Stored.Bytes n
+stored (suc n) k = Stored.Refused (suc n)
+
+-- "tells the number of bytes written"
+abbrev pub writeAnswer : ℕ → ℕ → List ℕ → List ℕ → Stored
+writeAnswer w h raster out = stored (writeRefusal w h (length raster) (length out)) (length (p6File w h raster))
+
+abbrev pub writeOut : ℕ → ℕ → List ℕ → List ℕ → List ℕ
+writeOut w h raster out = bufferAfter (writeRefusal w h (length raster) (length out)) (p6File w h raster) out
