@@ -18,7 +18,7 @@ use borrow.Author.Tests.{lt-ltb, le-ltb, le-leb, lt-leb}
 use Rattle.rules.specs.Sums.{gate}
 use Rattle.rules.specs.Planes.{within}
 use Rattle.rules.specs.Bitmaps.{bit, bitAt, rowWords}
-use Rattle.rules.proofs.SumLaws.{order}
+use Rattle.rules.proofs.SumLaws.{order, gate-zero}
 use Rattle.words.specs.Rows.{rowBit, back, WordOf, bias, biasOf}
 use Rattle.words.proofs.BitLaws.{bit-or, bit-shr, bit-above, bit-zero, bit-mod-low, bit-mod-high, bit-shl64-high, bit-shl64-low}
 
@@ -183,6 +183,11 @@ within-pos n m z f e = ap (λ (y : ℤ). within n y f) e
 within-neg : (n m : ℕ) (z : ℤ) (f : ℕ → ℕ) → z ≡ negsuc m → within n z f ≡ 0
 unfolding within
 within-neg n m z f e = ap (λ (y : ℤ). within n y f) e
+
+pub within-zero : (n : ℕ) (z : ℤ) → within n z (λ k. 0) ≡ 0
+unfolding within
+within-zero n (pos k) = gate-zero (ltb k n)
+within-zero n (negsuc k) = refl
 
 -- a pixel at a signed distance is one at a biased distance
 pub within-back : (n x : ℕ) (d : ℤ) (f : ℕ → ℕ) → SFits w32 d
