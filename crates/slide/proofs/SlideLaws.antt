@@ -2,7 +2,7 @@
 use mathlib.Core.Path.{_≡_, sym, ap, ap₂, _∙_}
 use mathlib.Core.Logic.{⊎-elim}
 use mathlib.Core.List.{List}
-use Prim.Native.Nat.{ℕ, suc, _+_, _*_, _-_, _/_, _%_, _^_, _≤_, _<_}
+use Prim.Native.Nat.{ℕ, suc, _+_, _*_, _-_, _/_, _%_, _≤_, _<_}
 use native.Mathlib.Nat.{add-zero, mul-comm, mul-le-mul-right, suc-mul}
 use native.Mathlib.Omega.{arith}
 use lib.Arith.{digits-mod}
@@ -15,7 +15,7 @@ use mir.Val.{SFits}
 use Rattle.rules.specs.Sums.{gate}
 use Rattle.rules.specs.Frames.{Frame}
 use Rattle.rules.specs.Planes.{within, shifted}
-use Rattle.rules.specs.Bitmaps.{bit, bitAt, rowWords, word, wordOf}
+use Rattle.rules.specs.Bitmaps.{bit, bitAt, rowWords, wordOf}
 use Rattle.rules.proofs.SumLaws.{order}
 use Rattle.rules.specs.Buffers.{RowAt, FrameAt}
 use Rattle.rules.proofs.FrameLaws.{row-none, row-more, row-fits}

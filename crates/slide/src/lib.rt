@@ -7,7 +7,6 @@ use words::moves::Move;
 use words::moves::clipped_word;
 use words::moves::joined_word;
 use words::moves::move_by;
-ghost use mathlib.Core.Path.{_≡_};
 ghost use Prim.Native.Nat.{_+_, _*_, _-_, _≤_, _<_};
 ghost use lib.IntN.{pos};
 ghost use lib.ListN.{length, drop};
