@@ -48,7 +48,7 @@ pub extern "C" fn mtb_shift(
     ensures answer { λ n. ⌜ n ≡ shiftRefusal w h (length (now (bitmap .entry))) (length (now (out .entry))) ⌝ }
     ensures output { λ _. ⌜ now (out .exit) ≡ shiftOut w h dx dy (now (bitmap .entry)) (now (out .entry)) ⌝ }
 {
-    refusal_in(bitmap::shift(w as usize, h as usize, dx, dy, bitmap, out))
+    refusal_in(shift::shift(w as usize, h as usize, dx, dy, bitmap, out))
 }
 
 #[no_mangle]

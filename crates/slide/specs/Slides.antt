@@ -1,31 +1,19 @@
--- The words of rows moved sideways, and what is written of them.
+-- What is written of rows that are moved sideways.
 use mathlib.Core.Path.{_≡_}
 use mathlib.Core.List.{List}
 use Prim.Native.Nat.{ℕ, _+_, _*_, _≤_, _<_}
-use lib.Dec.{ltb}
 use lib.ListN.{length, getD}
-use Rattle.rules.specs.Limits.{wordBits}
-use Rattle.rules.specs.Sums.{gate}
 use Rattle.rules.specs.Frames.{Frame}
-use Rattle.rules.specs.Bitmaps.{word}
 use Rattle.words.specs.declared.moves.Move.{Move}
-use Rattle.words.specs.Moves.{movedBit}
-
--- word k of the row of w pixels whose words begin at `from`, moved by d places, d counted from the bias; bits past w are 0
-unfoldable pub slidWord : List ℕ → ℕ → ℕ → ℕ → ℕ → ℕ
-slidWord words from w d k = word (λ i. gate (ltb (k * wordBits + i) w) (movedBit words from w d (k * wordBits + i)))
-
--- the same by a move as `move_by` works it out
-abbrev pub slidRow : List ℕ → ℕ → Move → ℕ → ℕ
-slidRow words from m = slidWord words from (m .w) (m .q * wordBits + m .r)
+use Rattle.words.specs.Moves.{movedWord, movedRow}
 
 -- the words of a moved row from word `first` on
-abbrev pub slidFrom : List ℕ → ℕ → ℕ → ℕ → ℕ → ℕ → ℕ
-slidFrom words from w d first k = slidWord words from w d (first + k)
+abbrev pub movedFrom : List ℕ → ℕ → ℕ → ℕ → ℕ → ℕ → ℕ
+movedFrom words from w d first k = movedWord words from w d (first + k)
 
 -- the moved rows of a bitmap that begins at `from`, word k of row y
-abbrev pub slidRows : List ℕ → ℕ → Move → Frame
-slidRows words from m k y = slidRow words (from + y * m .n) m k
+abbrev pub movedRows : List ℕ → ℕ → Move → Frame
+movedRows words from m k y = movedRow words (from + y * m .n) m k
 
 -- the words from `first` up to `end` of the first y rows of n words from place `to` on are f's, and nothing else has changed
 pub record Columns (to n : ℕ) (f : Frame) (first end : ℕ) (before : List ℕ) (y : ℕ) (after : List ℕ) : Type 0 where

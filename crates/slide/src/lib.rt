@@ -2,14 +2,11 @@
 // the bitmap and the moved one are places of one slice.
 
 use words::BIAS_WORDS;
-use words::WORD_BITS;
 use words::biased;
-use words::keep_low;
-use words::moved_word;
 use words::moves::Move;
+use words::moves::clipped_word;
 use words::moves::joined_word;
 use words::moves::move_by;
-ghost use mathlib.Core.Path.{_≡_};
 ghost use Prim.Native.Nat.{_+_, _*_, _-_, _≤_, _<_};
 ghost use lib.IntN.{pos};
 ghost use lib.ListN.{length, drop};
@@ -18,18 +15,7 @@ ghost use Rattle.rules.specs.Planes.{shifted};
 ghost use Rattle.rules.specs.Bitmaps.{rowWords, bitAt, wordOf};
 ghost use Rattle.rules.specs.Buffers.{RowAt, FrameAt};
 ghost use Rattle.words.specs.Moves.{Moves};
-ghost use Rattle.slide.specs.Slides.{slidRow, slidFrom, slidRows, Columns, Interiors};
-
-// Word k of the moved row, at its edges: made of what lies in the row, with its bits past w as 0.
-fn edge_word(words: &[u64], from: usize, m: Move, k: usize) -> u64
-    requires moves { ⌜ Moves m ⌝ }
-    requires here { ⌜ k < m .n ⌝ }
-    requires row { ⌜ from + m .n ≤ length (now words) ⌝ }
-    ensures { λ v. ⌜ v ≡ slidRow (now (words .entry)) from m k ⌝ }
-{
-    let v = moved_word(words, from, m.w, k + BIAS_WORDS, m.q, m.r);
-    keep_low(v, m.w - k * WORD_BITS)
-}
+ghost use Rattle.slide.specs.Slides.{movedFrom, movedRows, Columns, Interiors};
 
 // Word k of every row. What it is made of is the same for all rows, so the compiler tests it once.
 fn slide_column(words: &mut [u64], from: usize, m: Move, h: usize, to: usize, k: usize)
@@ -37,12 +23,12 @@ fn slide_column(words: &mut [u64], from: usize, m: Move, h: usize, to: usize, k:
     requires here { ⌜ k < m .n ⌝ }
     requires apart { ⌜ from + m .n * h ≤ to ⌝ }
     requires room { ⌜ to + m .n * h ≤ length (now words) ⌝ }
-    ensures { λ _. ⌜ Columns to (m .n) (slidRows (now (words .entry)) from m) k (k + 1) (now (words .entry)) h (now (words .exit)) ⌝ }
+    ensures { λ _. ⌜ Columns to (m .n) (movedRows (now (words .entry)) from m) k (k + 1) (now (words .entry)) h (now (words .exit)) ⌝ }
 {
     let mut y: usize = 0;
     while y < h {
         let row = y * m.n;
-        words[to + (row + k)] = edge_word(words, from + row, m, k);
+        words[to + (row + k)] = clipped_word(words, from + row, m, k);
         y += 1;
     }
 }
@@ -61,7 +47,7 @@ fn slide_columns(
     requires span { ⌜ (first ≤ end) × (end ≤ m .n) ⌝ }
     requires apart { ⌜ from + m .n * h ≤ to ⌝ }
     requires room { ⌜ to + m .n * h ≤ length (now words) ⌝ }
-    ensures { λ _. ⌜ Columns to (m .n) (slidRows (now (words .entry)) from m) first end (now (words .entry)) h (now (words .exit)) ⌝ }
+    ensures { λ _. ⌜ Columns to (m .n) (movedRows (now (words .entry)) from m) first end (now (words .entry)) h (now (words .exit)) ⌝ }
 {
     let mut k = first;
     while k < end {
@@ -77,7 +63,8 @@ fn slide_run(words: &mut [u64], from: usize, m: Move, h: usize, to: usize)
     requires some { ⌜ (m .first < m .end) × (0 < h) ⌝ }
     requires apart { ⌜ from + m .n * h ≤ to ⌝ }
     requires room { ⌜ to + m .n * h ≤ length (now words) ⌝ }
-    ensures { λ _. ⌜ RowAt (to + m .first) (slidFrom (now (words .entry)) from (m .n * h * wordBits) (m .q * wordBits + m .r) (m .first)) (now (words .entry)) ((h - 1) * m .n + m .end - m .first) (now (words .exit)) ⌝ }
+    ensures { λ _. ⌜ RowAt (to + m .first) (movedFrom (now (words .entry)) from (m .n * h * wordBits) (m .q * wordBits + m .r) (m .first))
+        (now (words .entry)) ((h - 1) * m .n + m .end - m .first) (now (words .exit)) ⌝ }
 {
     let mut k = m.first;
     let end = (h - 1) * m.n + m.end;
@@ -93,7 +80,7 @@ fn slide_interiors(words: &mut [u64], from: usize, m: Move, h: usize, to: usize)
     requires moves { ⌜ Moves m ⌝ }
     requires apart { ⌜ from + m .n * h ≤ to ⌝ }
     requires room { ⌜ to + m .n * h ≤ length (now words) ⌝ }
-    ensures { λ _. ⌜ Interiors to h m (slidRows (now (words .entry)) from m) (now (words .entry)) (now (words .exit)) ⌝ }
+    ensures { λ _. ⌜ Interiors to h m (movedRows (now (words .entry)) from m) (now (words .entry)) (now (words .exit)) ⌝ }
 {
     if h == 0 {
         return;

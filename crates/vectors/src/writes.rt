@@ -106,7 +106,7 @@ fn shifted_number(data: &[u8], at: usize, bitmap: &[u64], out: &mut [u64]) -> u3
     let dx = signed(field(data, at, MOVE_X));
     let dy = signed(field(data, at, MOVE_Y));
     let w = size(data, at, WIDTH);
-    answers::written(bitmap::shift(w, size(data, at, HEIGHT), dx, dy, bitmap, out))
+    answers::written(shift::shift(w, size(data, at, HEIGHT), dx, dy, bitmap, out))
 }
 
 fn shift_number(data: &[u8], at: usize, out: &mut [u64]) -> u32 {

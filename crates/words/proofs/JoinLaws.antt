@@ -11,7 +11,7 @@ use Rattle.rules.specs.Bitmaps.{bit, rowWords}
 use Rattle.rules.proofs.SumLaws.{order}
 use Rattle.words.specs.declared.moves.Move.{Move}
 use Rattle.words.specs.Rows.{WordOf, rowBit, back, bias, biasWords}
-use Rattle.words.specs.Moves.{movedBit, Joined, Interior, Moves}
+use Rattle.words.specs.Moves.{movedBit, Joined, Moves}
 use Rattle.words.proofs.BitLaws.{bit-or, bit-shr, bit-above, bit-shl64-high, bit-shl64-low}
 use Rattle.words.proofs.MoveLaws.{row-bit, row-whole, back-at, moved-first}
 
@@ -25,11 +25,13 @@ MovedIn words from w d k v = (i : ℕ) → i < 64 → d ≤ bias + (k * 64 + i) 
 
 -- ---- words of a moved row
 
+-- the bias in words and in pixels
+place : (k i : ℕ) → (k + biasWords) * 64 + i ≡ bias + (k * 64 + i)
+place k i = omega arith
+
 pub moved-word : (words : List ℕ) (from w d k v : ℕ) → WordOf (back (rowBit words from w) d) (k + biasWords) v → WordOf (movedBit words from w d) k v
 unfolding movedBit
-moved-word words from w d k v a i l =
-    let e : (k + 33554432) * 64 + i ≡ 2147483648 + (k * 64 + i) = omega arith in
-    a i l ∙ ap (λ (x : ℕ). back (rowBit words from w) d x) e
+moved-word words from w d k v a i l = a i l ∙ ap (λ (x : ℕ). back (rowBit words from w) d x) (place k i)
 
 -- a word whose bits from r on are those of one word, and below r the topmost of another
 joined-high : (high low r i : ℕ) → low < 2 ^ 64 → r < 64 → r ≤ i → i < 64
@@ -52,24 +54,34 @@ joined-low high low r i l m =
 pub joined-is : (high low r : ℕ) → low < 2 ^ 64 → r < 64 → Joined high low r (bitOr (high * 2 ^ r % 2 ^ 64) (low / 2 ^ 1 / 2 ^ (63 - r)))
 joined-is high low r b l = record { above = λ i m n. joined-high high low r i b l m n; below = λ i m. joined-low high low r i l m }
 
--- two words of the row, s = k + biasWords − q and the one before it, joined: as far as both are right
+-- two words of f, s = k − q and the one before it, joined: as far as both are right
+joined-back : (f : ℕ → ℕ) (b q r k s high low v : ℕ) → r < 64 → 1 ≤ s → q + s ≡ k → WordIn b f s high → WordIn b f (s - 1) low → Joined high low r v
+    → (i : ℕ) → i < 64 → k * 64 + i - (q * 64 + r) < b → bit v i ≡ back f (q * 64 + r) (k * 64 + i)
+joined-back f b q r k s high low v l n e g h a i m x = ⊎-elim below above (order i r)
+  where
+    above : r ≤ i → bit v i ≡ back f (q * 64 + r) (k * 64 + i)
+    above o = a .above i o m ∙ g (i - r) (omega arith) (omega arith) ∙ sym (back-at f (q * 64 + r) (s * 64 + (i - r)) (k * 64 + i) (omega arith))
+
+    below : i < r → bit v i ≡ back f (q * 64 + r) (k * 64 + i)
+    below o =
+        a .below i o
+        ∙ h (64 - r + i) (omega arith) (omega arith)
+        ∙ sym (back-at f (q * 64 + r) ((s - 1) * 64 + (64 - r + i)) (k * 64 + i) (omega arith))
+
+pub joined-whole : (f : ℕ → ℕ) (k q r high low v : ℕ) → q < k → r < 64 → WordOf f (k - q) high → WordOf f (k - q - 1) low → Joined high low r v
+    → WordOf (back f (q * 64 + r)) k v
+joined-whole f k q r high low v l lr g h a i m =
+    joined-back f ((k - q + 1) * 64) q r k (k - q) high low v lr (omega arith) (omega arith) (λ j b c. g j b) (λ j b c. h j b) a i m (omega arith)
+
+-- the same of a row and a move that is counted from the bias
 pub joined-moved : (words : List ℕ) (from w b q r k s high low v : ℕ) → r < 64 → 1 ≤ s → q + s ≡ k + biasWords
     → WordIn b (rowBit words from w) s high → WordIn b (rowBit words from w) (s - 1) low → Joined high low r v
     → (i : ℕ) → i < 64 → bias + (k * 64 + i) - (q * 64 + r) < b → bit v i ≡ movedBit words from w (q * 64 + r) (k * 64 + i)
 unfolding movedBit
-joined-moved words from w b q r k s high low v l n e g h a i m x = ⊎-elim below above (order i r)
-  where
-    above : r ≤ i → bit v i ≡ back (rowBit words from w) (q * 64 + r) (2147483648 + (k * 64 + i))
-    above o =
-        a .above i o m
-        ∙ g (i - r) (omega arith) (omega arith)
-        ∙ sym (back-at (rowBit words from w) (q * 64 + r) (s * 64 + (i - r)) (2147483648 + (k * 64 + i)) (omega arith))
-
-    below : i < r → bit v i ≡ back (rowBit words from w) (q * 64 + r) (2147483648 + (k * 64 + i))
-    below o =
-        a .below i o
-        ∙ h (64 - r + i) (omega arith) (omega arith)
-        ∙ sym (back-at (rowBit words from w) (q * 64 + r) ((s - 1) * 64 + (64 - r + i)) (2147483648 + (k * 64 + i)) (omega arith))
+joined-moved words from w b q r k s high low v l n e g h a i m x =
+    let p = place k i in
+    joined-back (rowBit words from w) b q r (k + biasWords) s high low v l n e g h a i m (omega arith)
+    ∙ ap (λ (y : ℕ). back (rowBit words from w) (q * 64 + r) y) p
 
 pub raw-word : (words : List ℕ) (from w s j : ℕ) → j ≡ from + s → WordIn w (rowBit words from w) s (getD words j 0)
 raw-word words from w s j e i l m = ap (λ (n : ℕ). bit (getD words n 0) i) e ∙ sym (row-bit words from w s i m l)

@@ -2,3 +2,4 @@
 pub mod BitLaws
 pub mod MoveLaws
 pub mod JoinLaws
+pub mod MovedRowLaws

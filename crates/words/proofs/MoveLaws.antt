@@ -1,14 +1,14 @@
--- Laws of rows and their moves: a row's pixels in its words, a word of a moved row from two words of the row, and signed moves as biased ones.
-use mathlib.Core.Path.{_≡_, refl, sym, ap, ap₂, subst, _∙_}
+-- Laws of rows and their moves: a row's pixels in its words, the pixels of a moved row, and signed moves as biased ones.
+use mathlib.Core.Path.{_≡_, refl, sym, ap, ap₂, _∙_}
 use mathlib.Core.Bool.{Bool, true, false, _&&_, cond}
 use mathlib.Core.Logic.{⊎-elim}
 use mathlib.Core.List.{List}
-use Prim.Native.Nat.{ℕ, zero, suc, _+_, _*_, _-_, _/_, _%_, _^_, _≤_, _<_, max}
+use Prim.Native.Nat.{ℕ, zero, suc, _+_, _*_, _-_, _/_, _%_, _^_, _≤_, _<_}
 use native.Mathlib.Nat.{add-comm, one-mul, mod-eq-of-lt}
 use native.Mathlib.Omega.{arith}
 use lib.Dec.{ltb}
 use lib.ListN.{getD}
-use lib.Bits.{bitAnd, bitOr, and-mask}
+use lib.Bits.{bitAnd, and-mask}
 use lib.Pow.{pow-lt}
 use lib.IntN.{ℤ, pos, negsuc, _+ℤ_, _-ℤ_, subℕ}
 use mir.Syntax.{w32, w64}
@@ -18,9 +18,9 @@ use borrow.Author.Tests.{lt-ltb, le-ltb, le-leb, lt-leb}
 use Rattle.rules.specs.Sums.{gate}
 use Rattle.rules.specs.Planes.{within}
 use Rattle.rules.specs.Bitmaps.{bit, bitAt, rowWords}
-use Rattle.rules.proofs.SumLaws.{order}
+use Rattle.rules.proofs.SumLaws.{order, gate-zero}
 use Rattle.words.specs.Rows.{rowBit, back, WordOf, bias, biasOf}
-use Rattle.words.proofs.BitLaws.{bit-or, bit-shr, bit-above, bit-zero, bit-mod-low, bit-mod-high, bit-shl64-high, bit-shl64-low}
+use Rattle.words.proofs.BitLaws.{bit-above, bit-zero, bit-mod-low, bit-mod-high, bit-shl64-high, bit-shl64-low}
 
 -- ---- gates
 
@@ -118,40 +118,12 @@ module _ (f : ℕ → ℕ) (k q r : ℕ) where
   pub moved-before : k < q → WordOf (back f (q * 64 + r)) k 0
   moved-before l i m = bit-zero i ∙ sym (back-under f (q * 64 + r) (k * 64 + i) (omega arith))
 
-  pub moved-whole : (v : ℕ) → q ≤ k → r ≡ 0 → WordOf f (k - q) v → WordOf (back f (q * 64 + r)) k v
-  moved-whole v l z s i m = s i m ∙ sym (back-at f (q * 64 + r) ((k - q) * 64 + i) (k * 64 + i) (omega arith))
-
-  -- the bits from r on
-  upper : (v : ℕ) → q ≤ k → WordOf f (k - q) v → (i : ℕ) → i < 64 → r ≤ i → bit (v * 2 ^ r % 2 ^ 64) i ≡ back f (q * 64 + r) (k * 64 + i)
-  upper v l s i m n =
-      bit-shl64-high v r i n m
-      ∙ s (i - r) (omega arith)
-      ∙ sym (back-at f (q * 64 + r) ((k - q) * 64 + (i - r)) (k * 64 + i) (omega arith))
-
   pub moved-first : (v : ℕ) → q ≡ k → WordOf f 0 v → WordOf (back f (q * 64 + r)) k (v * 2 ^ r % 2 ^ 64)
   moved-first v e s i m =
-      let z : 0 ≡ k - q = omega arith in
       ⊎-elim
       (λ (n : i < r). bit-shl64-low v r i n ∙ sym (back-under f (q * 64 + r) (k * 64 + i) (omega arith)))
-      (λ (n : r ≤ i). upper v (omega arith) (subst (λ (j : ℕ). WordOf f j v) z s) i m n)
+      (λ (n : r ≤ i). bit-shl64-high v r i n m ∙ s (i - r) (omega arith) ∙ sym (back-at f (q * 64 + r) (0 * 64 + (i - r)) (k * 64 + i) (omega arith)))
       (order i r)
-
-  pub moved-joined : (v u : ℕ) → q < k → r < 64 → u < 2 ^ 64 → WordOf f (k - q) v → WordOf f (k - q - 1) u
-      → WordOf (back f (q * 64 + r)) k (bitOr (v * 2 ^ r % 2 ^ 64) (u / 2 ^ (64 - r)))
-  moved-joined v u l lr b s t i m = bit-or (v * 2 ^ r % 2 ^ 64) (u / 2 ^ (64 - r)) i ∙ ⊎-elim lower higher (order i r)
-    where
-      lower : i < r → max (bit (v * 2 ^ r % 2 ^ 64) i) (bit (u / 2 ^ (64 - r)) i) ≡ back f (q * 64 + r) (k * 64 + i)
-      lower n =
-          let z : bit (v * 2 ^ r % 2 ^ 64) i ≡ 0 = bit-shl64-low v r i n in
-          let e : bit (u / 2 ^ (64 - r)) i ≡ f ((k - q - 1) * 64 + (64 - r + i)) = bit-shr u (64 - r) i ∙ t (64 - r + i) (omega arith) in
-          let g : max (bit (v * 2 ^ r % 2 ^ 64) i) (bit (u / 2 ^ (64 - r)) i) ≡ bit (u / 2 ^ (64 - r)) i = omega arith in
-          g ∙ e ∙ sym (back-at f (q * 64 + r) ((k - q - 1) * 64 + (64 - r + i)) (k * 64 + i) (omega arith))
-
-      higher : r ≤ i → max (bit (v * 2 ^ r % 2 ^ 64) i) (bit (u / 2 ^ (64 - r)) i) ≡ back f (q * 64 + r) (k * 64 + i)
-      higher n =
-          let z : bit (u / 2 ^ (64 - r)) i ≡ 0 = bit-shr u (64 - r) i ∙ bit-above u 64 (64 - r + i) b (omega arith) in
-          let g : max (bit (v * 2 ^ r % 2 ^ 64) i) (bit (u / 2 ^ (64 - r)) i) ≡ bit (v * 2 ^ r % 2 ^ 64) i = omega arith in
-          g ∙ upper v (omega arith) s i m n
 
 -- ---- signed moves
 
@@ -183,6 +155,11 @@ within-pos n m z f e = ap (λ (y : ℤ). within n y f) e
 within-neg : (n m : ℕ) (z : ℤ) (f : ℕ → ℕ) → z ≡ negsuc m → within n z f ≡ 0
 unfolding within
 within-neg n m z f e = ap (λ (y : ℤ). within n y f) e
+
+pub within-zero : (n : ℕ) (z : ℤ) → within n z (λ k. 0) ≡ 0
+unfolding within
+within-zero n (pos k) = gate-zero (ltb k n)
+within-zero n (negsuc k) = refl
 
 -- a pixel at a signed distance is one at a biased distance
 pub within-back : (n x : ℕ) (d : ℤ) (f : ℕ → ℕ) → SFits w32 d

@@ -8,6 +8,7 @@ ghost use Rattle.rules.specs.Limits.{wordBits};
 ghost use Rattle.rules.specs.Sums.{gate};
 ghost use Rattle.rules.specs.Bitmaps.{bit, rowWords};
 ghost use Rattle.words.specs.Rows.{rowBit, back, WordOf, biasOf};
+use moves::joined_word;
 
 pub mod moves;
 
@@ -54,20 +55,14 @@ pub fn moved_word(src: &[u64], base: usize, w: usize, k: usize, q: usize, r: usi
     requires rest { ⌜ r < wordBits ⌝ }
     ensures { λ v. ⌜ WordOf (back (rowBit (now (src .entry)) base w) (q * wordBits + r)) k v ⌝ }
 {
-    if r == 0 {
-        if k < q {
-            return 0;
-        }
-        return row_word(src, base, w, k - q);
-    }
     if q < k {
         let j = k - q;
         if j * WORD_BITS + WORD_BITS <= w {
-            return (src[base + j] << r) | (src[base + (j - 1)] >> (WORD_BITS - r));
+            return joined_word(src[base + j], src[base + (j - 1)], r);
         }
         let high = row_word(src, base, w, j);
         let low = row_word(src, base, w, j - 1);
-        return (high << r) | (low >> (WORD_BITS - r));
+        return joined_word(high, low, r);
     }
     if q == k {
         return row_word(src, base, w, 0) << r;

@@ -2,11 +2,14 @@
 
 use crate::BIAS_WORDS;
 use crate::WORD_BITS;
+use crate::keep_low;
+use crate::moved_word;
 use refusals::row_words;
 ghost use mathlib.Core.Path.{_≡_};
 ghost use Prim.Native.Nat.{_+_, _*_, _<_, _≤_, min, max};
+ghost use lib.ListN.{length};
 ghost use Rattle.rules.specs.Limits.{maxSide, wordBits};
-ghost use Rattle.words.specs.Moves.{Moves, Joined};
+ghost use Rattle.words.specs.Moves.{Moves, Joined, movedRow};
 
 // A move of rows of w pixels, in n words, by q words, counted from the bias, and r bits. A word from
 // `first` up to `end` is interior: it is made of two words of the row, all three of them full, and so
@@ -62,4 +65,15 @@ pub fn joined_word(high: u64, low: u64, r: usize) -> u64
     ensures { λ v. ⌜ Joined high low r v ⌝ }
 {
     (high << r) | ((low >> 1) >> (63 - r))
+}
+
+// Word k of the moved row, with its bits past w as 0.
+pub fn clipped_word(words: &[u64], from: usize, m: Move, k: usize) -> u64
+    requires moves { ⌜ Moves m ⌝ }
+    requires here { ⌜ k < m .n ⌝ }
+    requires row { ⌜ from + m .n ≤ length (now words) ⌝ }
+    ensures { λ v. ⌜ v ≡ movedRow (now (words .entry)) from m k ⌝ }
+{
+    let v = moved_word(words, from, m.w, k + BIAS_WORDS, m.q, m.r);
+    keep_low(v, m.w - k * WORD_BITS)
 }

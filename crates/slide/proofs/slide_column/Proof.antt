@@ -4,13 +4,13 @@ use Prim.Native.Nat.{_+_, _*_, _-_, _≤_}
 use native.Mathlib.Omega.{arith}
 use borrow.Author.Needs.{needs}
 use Rattle.rules.proofs.FrameLaws.{row-fits}
-use Rattle.slide.specs.Slides.{slidRows, Columns}
+use Rattle.slide.specs.Slides.{movedRows, Columns}
 use Rattle.slide.proofs.SlideLaws.{column-more}
 use Rattle.slide.proofs.slide_column.Statement.{statement}
 use Rattle.slide.proofs.slide_column.Tie as tie
 
 abbrev Inv-loop : tie.InvT-loop
-Inv-loop words₀ from m h to k y₀ words y = (y ≤ h) × Columns to (m .n) (slidRows words₀ from m) k (k + 1) words₀ y words
+Inv-loop words₀ from m h to k y₀ words y = (y ≤ h) × Columns to (m .n) (movedRows words₀ from m) k (k + 1) words₀ y words
 
 abbrev μ-loop : tie.MeasureT-loop
 μ-loop words₀ from m h to k y₀ words y = h - y
@@ -25,11 +25,11 @@ loop-holds c = search needs
 mul-row : tie.Need-mul-row Inv-loop μ-loop
 mul-row c = omega (arith, fits (c .before))
 
-add-edge-word : tie.Need-add-edge-word Inv-loop μ-loop
-add-edge-word c = omega (arith, fits (c .before .before))
+add-clipped-word : tie.Need-add-clipped-word Inv-loop μ-loop
+add-clipped-word c = omega (arith, fits (c .before .before))
 
-edge-word-requires : tie.Need-edge-word-requires Inv-loop μ-loop
-edge-word-requires c κs =
+clipped-word-requires : tie.Need-clipped-word-requires Inv-loop μ-loop
+clipped-word-requires c κs =
     let test = c .before .before in
     let p = test .before .before .before .pre in
     let f = fits test in
@@ -60,8 +60,8 @@ loop-again c =
     let s = test .before .before .before in
     let a = s .args in (
       omega arith,
-      column-more (a .words .now) (L .words) (a .from) (a .m) (a .h) (a .to) (a .k) (L .y) (c .edge-word .result) (s .pre .0 .row) (s .pre .1 .1 .0) (s .pre .1 .1 .1) (s .pre .1 .0)
-          (test .loop-test .taken) (L .inv .1) (c .edge-word .ensures),
+      column-more (a .words .now) (L .words) (a .from) (a .m) (a .h) (a .to) (a .k) (L .y) (c .clipped-word .result) (s .pre .0 .row) (s .pre .1 .1 .0) (s .pre .1 .1 .1) (s .pre .1 .0)
+          (test .loop-test .taken) (L .inv .1) (c .clipped-word .ensures),
     )
 
 same-length : tie.Need-same-length Inv-loop μ-loop
@@ -81,8 +81,8 @@ slide-column-spec =
     μ-loop
     loop-holds
     mul-row
-    add-edge-word
-    edge-word-requires
+    add-clipped-word
+    clipped-word-requires
     add-words
     add-words-2
     mul-words

@@ -3,13 +3,13 @@ use mathlib.Core.Path.{_≡_}
 use Prim.Native.Nat.{_-_, _≤_}
 use native.Mathlib.Omega.{arith}
 use borrow.Author.Needs.{needs}
-use Rattle.slide.specs.Slides.{slidRows, Columns}
+use Rattle.slide.specs.Slides.{movedRows, Columns}
 use Rattle.slide.proofs.SlideLaws.{columns-more}
 use Rattle.slide.proofs.slide_columns.Statement.{statement}
 use Rattle.slide.proofs.slide_columns.Tie as tie
 
 abbrev Inv-loop : tie.InvT-loop
-Inv-loop words₀ from m h to first end k₀ words k = (first ≤ k) × ((k ≤ end) × Columns to (m .n) (slidRows words₀ from m) first k words₀ h words)
+Inv-loop words₀ from m h to first end k₀ words k = (first ≤ k) × ((k ≤ end) × Columns to (m .n) (movedRows words₀ from m) first k words₀ h words)
 
 abbrev μ-loop : tie.MeasureT-loop
 μ-loop words₀ from m h to first end k₀ words k = end - k

@@ -6,14 +6,15 @@ use borrow.Author.Needs.{needs}
 use Rattle.rules.specs.Buffers.{RowAt}
 use Rattle.rules.proofs.FrameLaws.{row-fits}
 use Rattle.words.specs.Moves.{Interior}
-use Rattle.slide.specs.Slides.{slidFrom}
-use Rattle.slide.proofs.SlideLaws.{part-none, part-more, interior-slid, long-words, run-inside}
+use Rattle.words.proofs.MovedRowLaws.{interior-moved}
+use Rattle.slide.specs.Slides.{movedFrom}
+use Rattle.slide.proofs.SlideLaws.{part-none, part-more, long-words, run-inside}
 use Rattle.slide.proofs.slide_run.Statement.{statement}
 use Rattle.slide.proofs.slide_run.Tie as tie
 
 abbrev Inv-loop : tie.InvT-loop
 Inv-loop words₀ from m h to k₀ end words k =
-    (m .first ≤ k) × ((k ≤ end) × RowAt (to + m .first) (slidFrom words₀ from (m .n * h * 64) (m .q * 64 + m .r) (m .first)) words₀ (k - m .first) words)
+    (m .first ≤ k) × ((k ≤ end) × RowAt (to + m .first) (movedFrom words₀ from (m .n * h * 64) (m .q * 64 + m .r) (m .first)) words₀ (k - m .first) words)
 
 abbrev μ-loop : tie.MeasureT-loop
 μ-loop words₀ from m h to k₀ end words k = end - k
@@ -97,7 +98,7 @@ loop-again c =
         omega arith,
         part-more (a .words .now) (L .words) (a .from) (a .m .n * a .h * 64) (a .m .q * 64 + a .m .r) (a .to) (a .m .first) (L .k) (c .joined-word .result) (omega arith) (L .inv .0) (omega arith)
             (L .inv .1 .1)
-            (interior-slid (L .words) (a .from) (a .m .n * a .h * 64) (a .m .q) (a .m .r) (L .k) (a .from + L .k + 33554432 - a .m .q) (c .joined-word .result) (c .joined-word .ok) (s .pre .0 .bits)
+            (interior-moved (L .words) (a .from) (a .m .n * a .h * 64) (a .m .q) (a .m .r) (L .k) (a .from + L .k + 33554432 - a .m .q) (c .joined-word .result) (c .joined-word .ok) (s .pre .0 .bits)
             n refl (c .joined-word .ensures)),
       ),
     )

@@ -2,10 +2,10 @@
 use Prim.Native.Nat.{_+_, _*_}
 use native.Mathlib.Omega.{arith}
 use borrow.Author.Needs.{needs}
 use Rattle.words.proofs.MoveLaws.{row-words-under, row-words-max}
-use Rattle.slide.proofs.SlideLaws.{edge-slid}
-use Rattle.slide.proofs.edge_word.Statement.{statement}
-use Rattle.slide.proofs.edge_word.Tie as tie
+use Rattle.words.proofs.MovedRowLaws.{clipped-moved}
+use Rattle.words.proofs.moves.clipped_word.Statement.{statement}
+use Rattle.words.proofs.moves.clipped_word.Tie as tie
 
 add-moved-word : tie.Need-add-moved-word
 add-moved-word c = search needs
@@ -26,11 +26,11 @@ returns : tie.Need-returns
 returns c =
     let s = c .before .before .before .before in
     let a = s .args in
-    edge-slid (a .words .now) (a .from) (a .m .w) (a .m .q * 64 + a .m .r) (a .k) (c .before .before .moved-word .result) (c .keep-low .result) (c .keep-low .ok)
+    clipped-moved (a .words .now) (a .from) (a .m .w) (a .m .q * 64 + a .m .r) (a .k) (c .before .before .moved-word .result) (c .keep-low .result) (c .keep-low .ok)
     (c .before .before .moved-word .ensures) (c .keep-low .ensures)
 
-pub edge-word-spec : {M : Type 1} → statement M
-edge-word-spec =
+pub clipped-word-spec : {M : Type 1} → statement M
+clipped-word-spec =
     tie.close
     (tie.spec
     add-moved-word

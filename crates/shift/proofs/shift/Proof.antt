@@ -1,4 +1,4 @@
--- `bitmap::shift` meets its contract: refused before anything is written, else the core's result at the moves as they were passed.
+-- `shift::shift` meets its contract: refused before anything is written, else the core's result at the moves as they were passed.
 use borrow.Author.Needs.{needs}
 use mathlib.Core.Path.{refl, sym, _∙_}
 use mir.Facts.{toZ-ofZ}
@@ -7,8 +7,8 @@ use Rattle.rules.specs.Frames.{writtenOver}
 use Rattle.rules.specs.Planes.{shifted}
 use Rattle.rules.specs.Bitmaps.{bitAt, packed}
 use Rattle.rules.proofs.RefusalLaws.{shift-ok, written-refused, buffer-refused}
-use Rattle.bitmap.proofs.shift.Statement.{statement}
-use Rattle.bitmap.proofs.shift.Tie as tie
+use Rattle.shift.proofs.shift.Statement.{statement}
+use Rattle.shift.proofs.shift.Tie as tie
 
 shift-refusal-requires : tie.Need-shift-refusal-requires
 shift-refusal-requires c κs = search needs
@@ -17,8 +17,8 @@ returns : tie.Need-returns
 returns c =
     rw (← c .before .shift-refusal .ensures) (written-refused _ (c .if1 .taken), buffer-refused _ _ _ (c .if1 .taken))
 
-move-bitmap-requires : tie.Need-move-bitmap-requires
-move-bitmap-requires c κs =
+shift-bitmap-requires : tie.Need-shift-bitmap-requires
+shift-bitmap-requires c κs =
     shift-ok _ _ _ _ (sym (c .before .before .shift-refusal .ensures) ∙ c .before .if1 .left)
 
 same-length : tie.Need-same-length
@@ -31,10 +31,10 @@ returns-2 c =
     let e = sym (c .before .before .before .before .before .shift-refusal .ensures) ∙ c .before .before .before .before .if1 .left in
     rw e (
       refl,
-      c .before .before .move-bitmap .ensures
+      c .before .before .shift-bitmap .ensures
           ∙ (λ i. writtenOver (packed (a .w) (a .h) (shifted (a .w) (a .h) (toZ-ofZ (s .fits .dx) i) (toZ-ofZ (s .fits .dy) i) (bitAt (a .w) (a .h) (now (a .bitmap))))) (now (a .out))),
     )
 
 pub shift-spec : {M : Type 1} → statement M
 shift-spec =
-    tie.close (tie.spec shift-refusal-requires returns move-bitmap-requires same-length returns-2)
+    tie.close (tie.spec shift-refusal-requires returns shift-bitmap-requires same-length returns-2)

@@ -1,4 +1,4 @@
--- `bitmap::moves::clear_row` meets its contract. Invariant: the first k words at `to` are 0, and nothing else has changed.
+-- `shift::rows::clear_row` meets its contract. Invariant: the first k words at `to` are 0, and nothing else has changed.
 use native.Mathlib.Omega.{arith}
 use borrow.Author.Needs.{needs}
 use mathlib.Core.Path.{_≡_, refl}
@@ -6,9 +6,9 @@ use Prim.Native.Nat.{_≤_, _-_}
 use denote.Ref.{now}
 use Rattle.rules.specs.Buffers.{RowAt}
 use Rattle.rules.proofs.FrameLaws.{row-none, row-more}
-use Rattle.bitmap.specs.Moves.{blank}
-use Rattle.bitmap.proofs.moves.clear_row.Statement.{statement}
-use Rattle.bitmap.proofs.moves.clear_row.Tie as tie
+use Rattle.shift.specs.Places.{blank}
+use Rattle.shift.proofs.rows.clear_row.Statement.{statement}
+use Rattle.shift.proofs.rows.clear_row.Tie as tie
 
 abbrev Inv-loop : tie.InvT-loop
 Inv-loop dst₀ to n k₀ dst k = (k ≤ n) × RowAt to blank dst₀ k dst

@@ -1,0 +1,92 @@
+-- Laws of the shift: a row in its place, and all rows against document 01's shift.
+use mathlib.Core.Path.{_≡_, sym, ap, subst, _∙_}
+use mathlib.Core.Logic.{⊎-elim}
+use mathlib.Core.List.{List}
+use Prim.Native.Nat.{ℕ, _+_, _*_, _-_, _^_, _≤_, _<_}
+use native.Mathlib.Nat.{zero-mul}
+use native.Mathlib.Omega.{arith}
+use lib.Dec.{ltb}
+use lib.ListN.{length}
+use lib.IntN.{ℤ, pos, _-ℤ_}
+use mir.Syntax.{w32}
+use mir.Val.{SFits}
+use Rattle.rules.specs.Sums.{gate}
+use Rattle.rules.specs.Frames.{Frame, writtenOver}
+use Rattle.rules.specs.Planes.{within, shifted}
+use Rattle.rules.specs.Bitmaps.{bitAt, rowWords, word, wordOf, packed}
+use Rattle.rules.specs.Buffers.{RowAt, FrameAt}
+use Rattle.rules.proofs.SumLaws.{order, sum-zero, gate-zero}
+use Rattle.rules.proofs.FrameLaws.{frame-written}
+use Rattle.words.specs.declared.moves.Move.{Move}
+use Rattle.words.specs.Rows.{bias, biasOf}
+use Rattle.words.specs.Moves.{movedWord, movedRow, Moves}
+use Rattle.words.proofs.MoveLaws.{gate-lt, gate-ge, back-at, back-under, within-zero, within-before, within-at, within-past}
+use Rattle.words.proofs.MovedRowLaws.{word-shifted}
+use Rattle.shift.specs.Places.{blank, placedRow, placedRows}
+
+-- ---- one row
+
+pub row-same : (to : ℕ) (f g : ℕ → ℕ) (before : List ℕ) (n : ℕ) (after : List ℕ) → ((k : ℕ) → f k ≡ g k) → RowAt to f before n after → RowAt to g before n after
+row-same to f g before n after e a = subst (λ (p : ℕ → ℕ). RowAt to p before n after) (λ i k. e k i) a
+
+-- the three cases of a row's source
+module _ (src : List ℕ) (h : ℕ) (m : Move) (e y : ℕ) where
+  pub row-before : bias + y < e → (k : ℕ) → blank k ≡ placedRow src h m e y k
+  unfolding placedRow
+  row-before l k = sym (back-under (λ z. gate (ltb z h) (movedRow src (z * m .n) m k)) e (bias + y) l)
+
+  row-back : e ≤ bias + y → (k : ℕ) → placedRow src h m e y k ≡ gate (ltb (bias + y - e) h) (movedRow src ((bias + y - e) * m .n) m k)
+  unfolding placedRow
+  row-back l k = back-at (λ z. gate (ltb z h) (movedRow src (z * m .n) m k)) e (bias + y - e) (bias + y) (omega arith)
+
+  pub row-inside : e ≤ bias + y → bias + y - e < h → (k : ℕ) → movedRow src ((bias + y - e) * m .n) m k ≡ placedRow src h m e y k
+  row-inside l i k = sym (row-back l k ∙ gate-lt (bias + y - e) h (movedRow src ((bias + y - e) * m .n) m k) i)
+
+  pub row-past : e ≤ bias + y → h ≤ bias + y - e → (k : ℕ) → blank k ≡ placedRow src h m e y k
+  row-past l i k = sym (row-back l k ∙ gate-ge (bias + y - e) h (movedRow src ((bias + y - e) * m .n) m k) i)
+
+-- ---- against document 01's shift
+
+word-zero : (w : ℕ) (f : Frame) (k y : ℕ) → ((x : ℕ) → f x y ≡ 0) → wordOf w f k y ≡ 0
+unfolding wordOf word
+word-zero w f k y e =
+    sum-zero 64 (λ i. gate (ltb (k * 64 + i) w) (f (k * 64 + i) y) * 2 ^ i)
+    (λ i l. ap (λ (a : ℕ). gate (ltb (k * 64 + i) w) a * 2 ^ i) (e (k * 64 + i)) ∙ ap (λ (a : ℕ). a * 2 ^ i) (gate-zero (ltb (k * 64 + i) w)) ∙ zero-mul (2 ^ i))
+
+module _ (src : List ℕ) (w h : ℕ) (dx dy : ℤ) (bx : SFits w32 dx) (by : SFits w32 dy) where
+  -- a row that has no source row
+  shifted-none : (y : ℕ) → ((f : ℕ → ℕ) → within h (pos y -ℤ dy) f ≡ 0) → (k : ℕ) → wordOf w (shifted w h dx dy (bitAt w h src)) k y ≡ 0
+  unfolding shifted
+  shifted-none y e k =
+      word-zero w (shifted w h dx dy (bitAt w h src)) k y
+      (λ x. (λ i. within w (pos x -ℤ dx) (λ x′. e (λ y′. bitAt w h src x′ y′) i)) ∙ within-zero w (pos x -ℤ dx))
+
+  -- the move is dx, counted from the bias, in rows of w pixels
+  module _ (m : Move) (moves : Moves m) (ew : m .w ≡ w) (ed : m .q * 64 + m .r ≡ biasOf dx) where
+    words : m .n ≡ rowWords w
+    words = moves .row ∙ ap rowWords ew
+
+    rows-shifted : (k y : ℕ) → placedRows src h m (biasOf dy) k y ≡ wordOf w (shifted w h dx dy (bitAt w h src)) k y
+    rows-shifted k y = ⊎-elim before (λ (l : biasOf dy ≤ bias + y). ⊎-elim (inside l) (past l) (order (bias + y - biasOf dy) h)) (order (bias + y) (biasOf dy))
+      where
+        before : bias + y < biasOf dy → placedRows src h m (biasOf dy) k y ≡ wordOf w (shifted w h dx dy (bitAt w h src)) k y
+        before l = sym (row-before src h m (biasOf dy) y l k) ∙ sym (shifted-none y (λ f. within-before h y dy f by l) k)
+
+        inside : biasOf dy ≤ bias + y → bias + y - biasOf dy < h → placedRows src h m (biasOf dy) k y ≡ wordOf w (shifted w h dx dy (bitAt w h src)) k y
+        inside l i =
+            sym (row-inside src h m (biasOf dy) y l i k)
+            ∙ (λ j. movedWord src ((bias + y - biasOf dy) * words j) (ew j) (ed j) k)
+            ∙ word-shifted src w h (bias + y - biasOf dy) y dx dy bx i (λ f. within-at h y dy f by l i) k
+
+        past : biasOf dy ≤ bias + y → h ≤ bias + y - biasOf dy → placedRows src h m (biasOf dy) k y ≡ wordOf w (shifted w h dx dy (bitAt w h src)) k y
+        past l i = sym (row-past src h m (biasOf dy) y l i k) ∙ sym (shifted-none y (λ f. within-past h y dy f by l i) k)
+
+    -- all rows written from the biased moves are the shifted bitmap
+    pub shifted-written : (down : ℕ) (before after : List ℕ) → down ≡ biasOf dy → rowWords w * h ≤ length before
+        → FrameAt 0 (m .n) (placedRows src h m down) before h after
+        → after ≡ writtenOver (packed w h (shifted w h dx dy (bitAt w h src))) before
+    unfolding packed
+    shifted-written down before after e room a =
+        frame-written (rowWords w) h (wordOf w (shifted w h dx dy (bitAt w h src))) before after room
+        (subst (λ (f : Frame). FrameAt 0 (rowWords w) f before h after) (λ i k y. rows-shifted k y i)
+        (subst (λ (n : ℕ). FrameAt 0 n (placedRows src h m (biasOf dy)) before h after) words (rw e at a)))

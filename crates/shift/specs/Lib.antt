@@ -1,0 +1,2 @@
+-- The shift as its rows are worked out.
+pub mod Places
