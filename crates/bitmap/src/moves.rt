@@ -12,16 +12,12 @@ ghost use Rattle.rules.specs.Buffers.{RowAt, FrameAt};
 ghost use Rattle.rules.specs.Accepted.{ShiftOk};
 ghost use Rattle.bitmap.specs.Moves.{movedWord, blank, movedRow, movedRows, Sized};
 use refusals::row_words;
+use words::BIAS;
+use words::BIAS_WORDS;
+use words::WORD_BITS;
 use words::biased;
 use words::keep_low;
 use words::moved_word;
-
-const WORD_BITS: usize = 64;
-
-// 2^31, the bias of a move, and the words in it.
-const BIAS: usize = 2147483648;
-
-const BIAS_WORDS: usize = 33554432;
 
 // The n words at `to` from the row at `from` moved by 64·q + r. Bits past w are written 0.
 pub fn move_row(

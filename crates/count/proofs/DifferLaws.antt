@@ -18,13 +18,15 @@ use Rattle.rules.specs.Planes.{within}
 use Rattle.rules.specs.Differences.{differ as differPixels, differAt, difference}
 use Rattle.rules.specs.Calls.{planesOf}
 use Rattle.rules.proofs.SumLaws.{order, gate-le, sum-ext, sum-zero, gate-zero}
-use Rattle.count.specs.declared.differences.Move.{Move}
+use Rattle.words.specs.declared.moves.Move.{Move}
 use Rattle.words.specs.Rows.{WordOf, rowBit, back, bias, biasWords, biasOf}
+use Rattle.words.specs.Moves.{movedBit, Joined, Interior}
 use Rattle.words.proofs.BitLaws.{bit-and, bit-xor, bit-zero}
 use Rattle.words.proofs.MoveLaws.{gate-lt, gate-ge, row-bit, row-past, back-at, back-under, within-back}
-use Rattle.count.specs.Rows.{Adds, frameDiffer, disagree, movedBit, rowDiffer, lineDiffer, movedDiffer, Joined, Interior, Moves, RowsIn, FramesIn}
+use Rattle.words.proofs.JoinLaws.{MovedIn, raw-word, raw-moved, joined-moved, whole-moved}
+use Rattle.count.specs.Rows.{Adds, frameDiffer, disagree, rowDiffer, lineDiffer, movedDiffer, RowsIn, FramesIn}
 use Rattle.count.proofs.AdderLaws.{Bit, off, on, bit-case}
-use Rattle.count.proofs.MovedLaws.{MovedIn, keptBit, row-case, moved-case, kept-first, kept-partner, kept-left, kept-right, raw-word, raw-moved, joined-moved, whole-moved}
+use Rattle.count.proofs.KeptLaws.{keptBit, row-case, moved-case, kept-first, kept-partner, kept-left, kept-right}
 use Rattle.count.proofs.RowLaws.{word-adds, word-none, full-word, bitAt-in, bits-le, row-room}
 
 -- ---- the four bits of a pixel
@@ -176,41 +178,6 @@ module _ (t1 e1 t2 e2 : List ℕ) (base from w q r k k2 u2 ones : ℕ) (l : r < 
       (whole-moved e2 from w q r k (k + 1) high (getD e2 (from + k) 0) k2 l (omega arith) (omega arith)
       b (subst (λ (j : ℕ). WordOf (rowBit e2 from w) j (getD e2 (from + k) 0)) z (full-word e2 from w k n)) f))
       u2 ones (raw-moved t2 from w q r k (k + 1) (from + k + 1) (from + k) u2 l (omega arith) (omega arith) (omega arith) (omega arith) g)
-
--- the interior of a moved row
-first-in : (q first end : ℕ) → first ≡ min end (max (q + 1) biasWords - biasWords) → (first ≤ end) × ((k : ℕ) → first ≤ k → k < end → q + 1 ≤ k + biasWords)
-first-in q first end e = (omega arith, λ k l m. omega arith)
-
-end-in : (full q end : ℕ) → end ≡ min full (max (q + full) biasWords - biasWords)
-    → (end ≤ full) × ((k : ℕ) → k < end → k + biasWords < q + full)
-end-in full q end e = (omega arith, λ k m. omega arith)
-
-rest-in : (first rest end : ℕ) → first ≤ end → rest ≡ end - (end - first) % 7 → ((first ≤ rest) × ((rest - first) % 7 ≡ 0)) × (rest ≤ end)
-rest-in first rest end l e = ((omega arith, omega arith), omega arith)
-
-pub full-le : (w : ℕ) → w / 64 ≤ rowWords w
-unfolding rowWords
-full-le w = omega arith
-
-pub moves : (m : Move) (d : ℕ) → m .w ≤ 4096 → m .n ≡ rowWords (m .w) → m .r ≡ d % 64
-    → m .end ≡ min (m .w / 64) (max (m .q + m .w / 64) biasWords - biasWords) → m .first ≡ min (m .end) (max (m .q + 1) biasWords - biasWords)
-    → m .rest ≡ m .end - (m .end - m .first) % 7
-    → Moves m
-moves m d b e r f g h =
-    let s = first-in (m .q) (m .first) (m .end) g in
-    let t = end-in (m .w / 64) (m .q) (m .end) f in
-    let u = t .0 in
-    let v = full-le (m .w) in
-    let o = rest-in (m .first) (m .rest) (m .end) (s .0) h in
-    record {
-      width = b;
-      row = e;
-      bits = rw r (mod-lt d (omega arith));
-      sevens = o .0;
-      rests = o .1;
-      ends = le-trans u (rw (← e) at v);
-      inside = λ k l n. record { here = lt-of-lt-of-le n u; low = s .1 k l n; high = t .1 k n };
-    }
 
 -- ---- rows and frames
 

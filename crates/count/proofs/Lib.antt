@@ -3,6 +3,6 @@ pub mod Table
 pub mod OnesLaws
 pub mod RowLaws
 pub mod AdderLaws
-pub mod MovedLaws
+pub mod KeptLaws
 pub mod DifferLaws
 pub mod AnswerLaws

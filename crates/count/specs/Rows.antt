@@ -2,18 +2,19 @@
 use mathlib.Core.Path.{_≡_}
 use mathlib.Core.Bool.{_&&_, not}
 use mathlib.Core.List.{List}
-use Prim.Native.Nat.{ℕ, _+_, _*_, _-_, _/_, _%_, _≤_, _<_}
+use Prim.Native.Nat.{ℕ, _+_, _*_, _≤_}
 use lib.Dec.{ltb, eqb}
 use lib.ListN.{length}
 use lib.IntN.{ℤ}
-use Rattle.rules.specs.Limits.{maxSide, wordBits}
+use Rattle.rules.specs.Limits.{wordBits}
 use Rattle.rules.specs.Sums.{gate, oneIf, sum}
-use Rattle.rules.specs.Bitmaps.{bit, rowWords}
+use Rattle.rules.specs.Bitmaps.{rowWords}
 use Rattle.rules.specs.Frames.{Frame}
 use Rattle.rules.specs.Differences.{differAt}
 use Rattle.rules.specs.Calls.{planesOf}
-use Rattle.count.specs.declared.differences.Move.{Move}
-use Rattle.words.specs.Rows.{rowBit, back, bias, biasWords}
+use Rattle.words.specs.declared.moves.Move.{Move}
+use Rattle.words.specs.Rows.{rowBit, back, bias}
+use Rattle.words.specs.Moves.{movedBit}
 
 -- count is what the words from `first` up to `end` add to the sum of f over a row's pixels
 abbrev pub Adds : (ℕ → ℕ) → ℕ → ℕ → ℕ → Type 0
@@ -27,10 +28,6 @@ frameDiffer w h dx dy t1 e1 t2 e2 = differAt w h dx dy (planesOf w h t1 e1) (pla
 unfoldable pub disagree : ℕ → ℕ → ℕ → ℕ → ℕ
 disagree t1 e1 t2 e2 = oneIf (eqb e1 1 && (eqb e2 1 && not (eqb t1 t2)))
 
--- pixel x of a row of the second frame moved by d places, d counted from the bias
-unfoldable pub movedBit : List ℕ → ℕ → ℕ → ℕ → ℕ → ℕ
-movedBit words from w d x = back (rowBit words from w) d (bias + x)
-
 -- pixel x of a row of the first frame, whose words begin at `base`, against its partner in a moved row of the second, whose words begin at `from`
 unfoldable pub rowDiffer : List ℕ → List ℕ → List ℕ → List ℕ → ℕ → ℕ → ℕ → ℕ → ℕ → ℕ
 rowDiffer t1 e1 t2 e2 base from w d x =
@@ -40,22 +37,6 @@ rowDiffer t1 e1 t2 e2 base from w d x =
 unfoldable pub lineDiffer : List ℕ → List ℕ → List ℕ → List ℕ → ℕ → ℕ → ℕ → ℕ → ℕ → ℕ
 lineDiffer t1 e1 t2 e2 w h d up y =
     back (λ z. gate (ltb z h) (sum w (rowDiffer t1 e1 t2 e2 (y * rowWords w) (z * rowWords w) w d))) up (bias + y)
-
--- word k of a moved row is made of two words of the row, and each of the three is one of the row's full words
-pub record Interior (full q k : ℕ) : Type 0 where
-  pub here : k < full
-  pub low : q + 1 ≤ k + biasWords
-  pub high : k + biasWords < q + full
-
--- a move as `differences` works it out: its words from `first` up to `end` are interior, those up to `rest` in blocks of seven
-pub record Moves (m : Move) : Type 0 where
-  pub width : m .w ≤ maxSide
-  pub row : m .n ≡ rowWords (m .w)
-  pub bits : m .r < wordBits
-  pub sevens : (m .first ≤ m .rest) × ((m .rest - m .first) % 7 ≡ 0)
-  pub rests : m .rest ≤ m .end
-  pub ends : m .end ≤ m .n
-  pub inside : (k : ℕ) → m .first ≤ k → k < m .end → Interior (m .w / wordBits) (m .q) k
 
 -- the row at `base` of the first frame against the row at `from` of the second, moved
 abbrev pub movedDiffer : List ℕ → List ℕ → List ℕ → List ℕ → ℕ → ℕ → Move → ℕ → ℕ
@@ -74,8 +55,3 @@ pub record FramesIn (t1 e1 t2 e2 : List ℕ) (w h : ℕ) : Type 0 where
   pub exclusion1 : rowWords w * h ≤ length e1
   pub threshold2 : rowWords w * h ≤ length t2
   pub exclusion2 : rowWords w * h ≤ length e2
-
--- the bits of `high` moved up by r, below them the topmost r bits of `low`
-pub record Joined (high low r v : ℕ) : Type 0 where
-  pub above : (i : ℕ) → r ≤ i → i < wordBits → bit v i ≡ bit high (i - r)
-  pub below : (i : ℕ) → i < r → bit v i ≡ bit low (wordBits - r + i)

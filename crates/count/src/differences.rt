@@ -3,84 +3,26 @@
 
 use crate::adder::seven_ones;
 use crate::ones::word_ones;
-use refusals::row_words;
+use words::BIAS;
+use words::BIAS_WORDS;
+use words::WORD_BITS;
 use words::biased;
 use words::moved_word;
+use words::moves::Move;
+use words::moves::joined_word;
+use words::moves::move_by;
 use words::row_word;
 ghost use mathlib.Core.Path.{_≡_};
-ghost use Prim.Native.Nat.{_+_, _*_, _-_, _<_, _≤_, min, max};
+ghost use Prim.Native.Nat.{_+_, _*_, _-_, _<_, _≤_};
 ghost use lib.ListN.{length, getD};
 ghost use Rattle.rules.specs.Limits.{maxSide, wordBits};
 ghost use Rattle.rules.specs.Sums.{sum};
 ghost use Rattle.rules.specs.Differences.{difference};
 ghost use Rattle.rules.specs.Calls.{planesOf};
 ghost use Rattle.words.specs.Rows.{WordOf, biasWords};
+ghost use Rattle.words.specs.Moves.{Moves};
 ghost use Rattle.count.specs.Ones.{CountsOnes};
-ghost use Rattle.count.specs.Rows.{Adds, movedDiffer, lineDiffer, Moves, RowsIn, FramesIn, Joined};
-
-const WORD_BITS: usize = 64;
-
-// 2^31: moves are counted from the least signed 32-bit number, so that none is negative.
-pub const BIAS: usize = 2147483648;
-
-// 2^31 / 64
-const BIAS_WORDS: usize = 33554432;
-
-// A move of rows of w pixels, in n words, by q words, counted from the bias, and r bits. A word from
-// `first` up to `end` is interior: it is made of two words of the row, all three of them full, and so
-// needs no test and no mask. Up to `rest` they go in blocks of seven.
-pub struct Move {
-    pub w: usize,
-    pub n: usize,
-    pub q: usize,
-    pub r: usize,
-    pub first: usize,
-    pub rest: usize,
-    pub end: usize,
-}
-
-fn lower(a: usize, b: usize) -> usize
-    ensures { λ r. ⌜ r ≡ min a b ⌝ }
-{
-    if a < b { a } else { b }
-}
-
-pub fn upper(a: usize, b: usize) -> usize
-    ensures { λ r. ⌜ r ≡ max a b ⌝ }
-{
-    if a < b { b } else { a }
-}
-
-pub fn move_by(w: usize, d: usize) -> Move
-    requires width { ⌜ w ≤ maxSide ⌝ }
-    requires near { ⌜ d < 4294967296 ⌝ }
-    ensures { λ m. ⌜ (m .w ≡ w) × ((m .q * wordBits + m .r ≡ d) × Moves m) ⌝ }
-{
-    let n = row_words(w);
-    let q = d / WORD_BITS;
-    let full = w / WORD_BITS;
-    let end = lower(full, upper(q + full, BIAS_WORDS) - BIAS_WORDS);
-    let first = lower(end, upper(q + 1, BIAS_WORDS) - BIAS_WORDS);
-    let rest = end - (end - first) % 7;
-    Move {
-        w,
-        n,
-        q,
-        r: d % WORD_BITS,
-        first,
-        rest,
-        end,
-    }
-}
-
-// The bits of one word moved up by r, below them the topmost r bits of the word before it. (Two steps
-// down, since the machine moves by less than 64.)
-pub fn joined_word(high: u64, low: u64, r: usize) -> u64
-    requires { ⌜ r < wordBits ⌝ }
-    ensures { λ v. ⌜ Joined high low r v ⌝ }
-{
-    (high << r) | ((low >> 1) >> (63 - r))
-}
+ghost use Rattle.count.specs.Rows.{Adds, movedDiffer, lineDiffer, RowsIn, FramesIn};
 
 // The pixels of interior word k at which the two rows differ.
 fn differing_word(

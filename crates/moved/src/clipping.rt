@@ -3,10 +3,8 @@
 ghost use mathlib.Core.Path.{_≡_};
 ghost use Prim.Native.Nat.{min};
 ghost use Rattle.moved.specs.Spans.{Clipped};
+use words::BIAS;
 use words::biased;
-
-// 2^31, the bias of a move.
-const BIAS: usize = 2147483648;
 
 // The places to..to+count of the moved side come from from..from+count; the others from outside.
 pub struct Span {

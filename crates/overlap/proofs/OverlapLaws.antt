@@ -17,7 +17,8 @@ use Rattle.rules.specs.Calls.{planesOf}
 use Rattle.rules.proofs.SumLaws.{order, sum-ext, sum-zero, sum-split, sum-none, pixels-flat}
 use Rattle.words.specs.Rows.{WordOf, rowBit, bias, biasOf}
 use Rattle.words.proofs.MoveLaws.{gate-lt, back-at}
-use Rattle.count.specs.Rows.{Adds, disagree, movedBit, rowDiffer, lineDiffer}
+use Rattle.words.specs.Moves.{movedBit}
+use Rattle.count.specs.Rows.{Adds, disagree, rowDiffer, lineDiffer}
 use Rattle.overlap.specs.Runs.{runBit, runDiffer, Clean}
 use Rattle.count.proofs.RowLaws.{sum-stop, adds-more, row-words-le}
 use Rattle.count.proofs.DifferLaws.{disagree-lt, disagree-right, mixed-bit, line-before, line-past, line-paired, frame-whole}

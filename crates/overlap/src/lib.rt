@@ -2,11 +2,11 @@
 // words of the first against one of the second.
 
 use count::adder::seven_ones;
-use count::differences::BIAS;
-use count::differences::upper;
 use count::ones::word_ones;
 use refusals::row_words;
+use words::BIAS;
 use words::biased;
+use words::moves::larger;
 ghost use mathlib.Core.Path.{_≡_};
 ghost use Prim.Native.Nat.{_+_, _*_, _%_, _<_, _≤_};
 ghost use lib.IntN.{pos};
@@ -159,7 +159,7 @@ pub fn overlap_frame(
     ensures { λ r. ⌜ r ≡ difference w h (pos 0) dy (planesOf w h (now (t1 .entry)) (now (e1 .entry))) (planesOf w h (now (t2 .entry)) (now (e2 .entry))) ⌝ }
 {
     let up = biased(dy);
-    let most = upper(up, BIAS);
+    let most = larger(up, BIAS);
     let top = most - BIAS;
     let from = most - up;
     if h <= top + from {

@@ -22,10 +22,9 @@ use Rattle.rules.proofs.FrameLaws.{row-none, row-more, row-fits}
 use Rattle.words.specs.Rows.{WordOf, rowBit, back, bias, biasWords, biasOf}
 use Rattle.words.proofs.BitLaws.{word-is, word-ext}
 use Rattle.words.proofs.MoveLaws.{gate-lt, gate-ge, row-bit, row-words-over, back-at, bitAt-row, moved-by}
-use Rattle.count.specs.declared.differences.Move.{Move}
-use Rattle.count.specs.Rows.{movedBit, Joined, Interior, Moves}
-use Rattle.count.proofs.MovedLaws.{WordIn, moved-word, raw-moved}
-use Rattle.count.proofs.DifferLaws.{full-le}
+use Rattle.words.specs.declared.moves.Move.{Move}
+use Rattle.words.specs.Moves.{movedBit, Joined, Interior, Moves}
+use Rattle.words.proofs.JoinLaws.{WordIn, moved-word, raw-moved, full-le}
 use Rattle.slide.specs.Slides.{slidWord, slidFrom, slidRows, Columns, Interiors}
 
 -- ---- one word

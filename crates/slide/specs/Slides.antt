@@ -8,14 +8,14 @@ use Rattle.rules.specs.Limits.{wordBits}
 use Rattle.rules.specs.Sums.{gate}
 use Rattle.rules.specs.Frames.{Frame}
 use Rattle.rules.specs.Bitmaps.{word}
-use Rattle.count.specs.declared.differences.Move.{Move}
-use Rattle.count.specs.Rows.{movedBit}
+use Rattle.words.specs.declared.moves.Move.{Move}
+use Rattle.words.specs.Moves.{movedBit}
 
 -- word k of the row of w pixels whose words begin at `from`, moved by d places, d counted from the bias; bits past w are 0
 unfoldable pub slidWord : List ℕ → ℕ → ℕ → ℕ → ℕ → ℕ
 slidWord words from w d k = word (λ i. gate (ltb (k * wordBits + i) w) (movedBit words from w d (k * wordBits + i)))
 
--- the same by a move as `count` works it out
+-- the same by a move as `move_by` works it out
 abbrev pub slidRow : List ℕ → ℕ → Move → ℕ → ℕ
 slidRow words from m = slidWord words from (m .w) (m .q * wordBits + m .r)
 

@@ -1,12 +1,14 @@
 // A packed bitmap moved sideways inside one lent memory: a memory can't be lent in two parts at once, so
 // the bitmap and the moved one are places of one slice.
 
-use count::differences::Move;
-use count::differences::joined_word;
-use count::differences::move_by;
+use words::BIAS_WORDS;
+use words::WORD_BITS;
 use words::biased;
 use words::keep_low;
 use words::moved_word;
+use words::moves::Move;
+use words::moves::joined_word;
+use words::moves::move_by;
 ghost use mathlib.Core.Path.{_≡_};
 ghost use Prim.Native.Nat.{_+_, _*_, _-_, _≤_, _<_};
 ghost use lib.IntN.{pos};
@@ -15,13 +17,8 @@ ghost use Rattle.rules.specs.Limits.{maxSide, wordBits};
 ghost use Rattle.rules.specs.Planes.{shifted};
 ghost use Rattle.rules.specs.Bitmaps.{rowWords, bitAt, wordOf};
 ghost use Rattle.rules.specs.Buffers.{RowAt, FrameAt};
-ghost use Rattle.count.specs.Rows.{Moves};
+ghost use Rattle.words.specs.Moves.{Moves};
 ghost use Rattle.slide.specs.Slides.{slidRow, slidFrom, slidRows, Columns, Interiors};
-
-const WORD_BITS: usize = 64;
-
-// 2^31 / 64: a move's words are counted from it.
-const BIAS_WORDS: usize = 33554432;
 
 // Word k of the moved row, at its edges: made of what lies in the row, with its bits past w as 0.
 fn edge_word(words: &[u64], from: usize, m: Move, k: usize) -> u64

@@ -2,6 +2,7 @@
 
 use popcount::table::word_count;
 use refusals::row_words;
+use words::WORD_BITS;
 use words::keep_low;
 ghost use mathlib.Core.Path.{_≡_};
 ghost use Prim.Native.Nat.{_+_, _*_, _<_, _≤_};
@@ -12,8 +13,6 @@ ghost use Rattle.rules.specs.Bitmaps.{bitAt, rowWords};
 ghost use Rattle.rules.specs.Planes.{total};
 ghost use Rattle.words.specs.Rows.{rowBit};
 ghost use Rattle.popcount.specs.Table.{CountsBits};
-
-const WORD_BITS: usize = 64;
 
 // Of the row at `base`: its full words up to `last` as they are, then the lowest `rest` bits of the
 // last one.

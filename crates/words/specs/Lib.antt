@@ -1,2 +1,3 @@
 -- What the functions on packed words work out, as definitions.
 pub mod Rows
+pub mod Moves

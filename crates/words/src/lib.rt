@@ -9,10 +9,15 @@ ghost use Rattle.rules.specs.Sums.{gate};
 ghost use Rattle.rules.specs.Bitmaps.{bit, rowWords};
 ghost use Rattle.words.specs.Rows.{rowBit, back, WordOf, biasOf};
 
-const WORD_BITS: usize = 64;
+pub mod moves;
 
-// 2^31: the least signed 32-bit number plus it is 0.
-const BIAS: i64 = 2147483648;
+pub const WORD_BITS: usize = 64;
+
+// 2^31: moves are counted from the least signed 32-bit number, so that none is negative.
+pub const BIAS: usize = 2147483648;
+
+// 2^31 / 64
+pub const BIAS_WORDS: usize = 33554432;
 
 // The low n bits of a word; the others are 0.
 pub fn keep_low(v: u64, n: usize) -> u64
@@ -74,5 +79,5 @@ pub fn moved_word(src: &[u64], base: usize, w: usize, k: usize, q: usize, r: usi
 pub fn biased(d: i32) -> usize
     ensures { λ r. ⌜ r ≡ biasOf d ⌝ }
 {
-    (d as i64 + BIAS) as usize
+    (d as i64 + BIAS as i64) as usize
 }

@@ -10,26 +10,26 @@ use Rattle.overlap.proofs.OverlapLaws.{overlap-none, overlap-whole, fra
 use Rattle.overlap.proofs.overlap_frame.Statement.{statement}
 use Rattle.overlap.proofs.overlap_frame.Tie as tie
 
-abbrev start : tie.After-upper → tie.Start
+abbrev start : tie.After-larger → tie.Start
 start c = c .before .before .before .before .before .before
 
-abbrev up : tie.After-upper → ℕ
+abbrev up : tie.After-larger → ℕ
 up c = c .before .biased .result
 
-abbrev top : tie.After-upper → ℕ
-top c = c .upper .result - bias
+abbrev top : tie.After-larger → ℕ
+top c = c .larger .result - bias
 
-abbrev from : tie.After-upper → ℕ
-from c = c .upper .result - up c
+abbrev from : tie.After-larger → ℕ
+from c = c .larger .result - up c
 
-up-is : (c : tie.After-upper) → up c ≡ biasOf (start c .args .dy)
+up-is : (c : tie.After-larger) → up c ≡ biasOf (start c .args .dy)
 up-is c = c .before .biased .ensures ∙ ap biasOf (toZ-ofZ (start c .fits .dy))
 
-top-is : (c : tie.After-upper) → top c ≡ max (up c) bias - bias
-top-is c = ap (λ (m : ℕ). m - bias) (c .upper .ensures)
+top-is : (c : tie.After-larger) → top c ≡ max (up c) bias - bias
+top-is c = ap (λ (m : ℕ). m - bias) (c .larger .ensures)
 
-from-is : (c : tie.After-upper) → from c ≡ max (up c) bias - up c
-from-is c = ap (λ (m : ℕ). m - up c) (c .upper .ensures)
+from-is : (c : tie.After-larger) → from c ≡ max (up c) bias - up c
+from-is c = ap (λ (m : ℕ). m - up c) (c .larger .ensures)
 
 words : (c : tie.After-row-words)
     → let u = c .before .before in
@@ -44,8 +44,8 @@ words c =
 biased-requires : tie.Need-biased-requires
 biased-requires c κs = search needs
 
-upper-requires : tie.Need-upper-requires
-upper-requires c κs = search needs
+larger-requires : tie.Need-larger-requires
+larger-requires c κs = search needs
 
 sub-top : tie.Need-sub-top
 sub-top c = search needs
@@ -99,7 +99,7 @@ overlap-frame-spec =
     tie.close
     (tie.spec
     biased-requires
-    upper-requires
+    larger-requires
     sub-top
     sub-from
     add-if1

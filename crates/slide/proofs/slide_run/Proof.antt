@@ -5,7 +5,7 @@ use native.Mathlib.Omega.{arith}
 use borrow.Author.Needs.{needs}
 use Rattle.rules.specs.Buffers.{RowAt}
 use Rattle.rules.proofs.FrameLaws.{row-fits}
-use Rattle.count.specs.Rows.{Interior}
+use Rattle.words.specs.Moves.{Interior}
 use Rattle.slide.specs.Slides.{slidFrom}
 use Rattle.slide.proofs.SlideLaws.{part-none, part-more, interior-slid, long-words, run-inside}
 use Rattle.slide.proofs.slide_run.Statement.{statement}

@@ -4,7 +4,8 @@ use native.Mathlib.Omega.{arith}
 use lib.Bits.{bitAnd}
 use borrow.Author.Needs.{needs}
 use Rattle.count.proofs.RowLaws.{row-words-le}
-use Rattle.count.proofs.MovedLaws.{moved-word, kept-left}
+use Rattle.words.proofs.JoinLaws.{moved-word}
+use Rattle.count.proofs.KeptLaws.{kept-left}
 use Rattle.count.proofs.DifferLaws.{none-adds, differ-adds}
 use Rattle.count.proofs.differences.careful_word.Statement.{statement}
 use Rattle.count.proofs.differences.careful_word.Tie as tie

@@ -4,8 +4,9 @@ use Prim.Native.Nat.{ℕ, _+_, _-_, _/_, _≤_, _<_}
 use native.Mathlib.Omega.{arith}
 use lib.ListN.{length}
 use borrow.Author.Needs.{needs}
-use Rattle.count.specs.Rows.{Interior}
-use Rattle.count.proofs.DifferLaws.{full-le, interior-differ}
+use Rattle.words.specs.Moves.{Interior}
+use Rattle.words.proofs.JoinLaws.{full-le}
+use Rattle.count.proofs.DifferLaws.{interior-differ}
 use Rattle.count.proofs.differences.differing_word.Statement.{statement}
 use Rattle.count.proofs.differences.differing_word.Tie as tie
 

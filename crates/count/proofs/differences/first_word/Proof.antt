@@ -5,8 +5,9 @@ use lib.ListN.{getD}
 use lib.Bits.{bitAnd}
 use borrow.Author.Needs.{needs}
 use Rattle.count.proofs.RowLaws.{full-word}
-use Rattle.count.proofs.MovedLaws.{first-moved, kept-left}
-use Rattle.count.proofs.DifferLaws.{full-le, differ-adds}
+use Rattle.words.proofs.JoinLaws.{first-moved, full-le}
+use Rattle.count.proofs.KeptLaws.{kept-left}
+use Rattle.count.proofs.DifferLaws.{differ-adds}
 use Rattle.count.proofs.differences.first_word.Statement.{statement}
 use Rattle.count.proofs.differences.first_word.Tie as tie
 

@@ -1,7 +1,8 @@
 -- The seven words of differences add their bits.
 use Prim.Native.Nat.{ℕ, _+_, _≤_, _<_}
 use native.Mathlib.Omega.{arith}
-use Rattle.count.specs.Rows.{Moves, RowsIn, movedDiffer}
+use Rattle.words.specs.Moves.{Moves}
+use Rattle.count.specs.Rows.{RowsIn, movedDiffer}
 use Rattle.count.proofs.RowLaws.{row-words-le, seven-adds}
 use Rattle.count.proofs.differences.interior_block.Statement.{statement}
 use Rattle.count.proofs.differences.interior_block.Tie as tie

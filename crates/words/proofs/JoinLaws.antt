@@ -1,21 +1,19 @@
--- The words of a moved row, and which pixels of two rows are kept.
-use mathlib.Core.Path.{_≡_, refl, sym, ap, ap₂, _∙_}
+-- Words of a moved row, joined from two words of the row, and the words of it that need no mask.
+use mathlib.Core.Path.{_≡_, sym, ap, _∙_}
 use mathlib.Core.Logic.{⊎-elim}
 use mathlib.Core.List.{List}
 use Prim.Native.Nat.{ℕ, _+_, _*_, _-_, _/_, _%_, _^_, _≤_, _<_, min, max}
-use native.Mathlib.Nat.{add-zero}
+use native.Mathlib.Nat.{add-zero, mod-lt, le-trans, lt-of-lt-of-le}
 use native.Mathlib.Omega.{arith}
-use lib.Dec.{leb}
 use lib.ListN.{getD}
-use lib.Bits.{bitAnd, bitOr}
-use Rattle.rules.specs.Bitmaps.{bit}
-use Rattle.rules.proofs.SumLaws.{order, gate-small}
+use lib.Bits.{bitOr}
+use Rattle.rules.specs.Bitmaps.{bit, rowWords}
+use Rattle.rules.proofs.SumLaws.{order}
+use Rattle.words.specs.declared.moves.Move.{Move}
 use Rattle.words.specs.Rows.{WordOf, rowBit, back, bias, biasWords}
-use Rattle.words.proofs.BitLaws.{bit-and, bit-or, bit-shr, bit-above, bit-shl64-high, bit-shl64-low}
-use Rattle.words.proofs.MoveLaws.{row-bit, row-past, back-at, back-under, moved-first}
-use Rattle.count.specs.Rows.{movedBit, Joined}
-use Rattle.count.proofs.AdderLaws.{Bit, number-case}
-use Rattle.count.proofs.RowLaws.{full-word, rowBit-lt}
+use Rattle.words.specs.Moves.{movedBit, Joined, Interior, Moves}
+use Rattle.words.proofs.BitLaws.{bit-or, bit-shr, bit-above, bit-shl64-high, bit-shl64-low}
+use Rattle.words.proofs.MoveLaws.{row-bit, row-whole, back-at, moved-first}
 
 -- v is word k of the pixels f, as far as the first w of them go
 abbrev pub WordIn : ℕ → (ℕ → ℕ) → ℕ → ℕ → Type 0
@@ -24,18 +22,6 @@ WordIn w f k v = (i : ℕ) → i < 64 → k * 64 + i < w → bit v i ≡ f (k * 
 -- v is word k of a moved row, as far as the row's own pixels go
 abbrev pub MovedIn : List ℕ → ℕ → ℕ → ℕ → ℕ → ℕ → Type 0
 MovedIn words from w d k v = (i : ℕ) → i < 64 → d ≤ bias + (k * 64 + i) → bias + (k * 64 + i) - d < w → bit v i ≡ movedBit words from w d (k * 64 + i)
-
--- 1 where both exclusion bits are 1
-abbrev pub keptBit : List ℕ → List ℕ → ℕ → ℕ → ℕ → ℕ → ℕ → ℕ
-keptBit e1 e2 base from w d x = min (rowBit e1 base w x) (movedBit e2 from w d x)
-
-pub row-case : (words : List ℕ) (base w x : ℕ) → Bit (rowBit words base w x)
-row-case words base w x = number-case (rowBit words base w x) (rowBit-lt words base w x)
-
-pub moved-case : (words : List ℕ) (from w d x : ℕ) → Bit (movedBit words from w d x)
-unfolding movedBit back
-moved-case words from w d x =
-    number-case (back (rowBit words from w) d (bias + x)) (gate-small (leb d (bias + x)) (rowBit words from w (bias + x - d)) (rowBit-lt words from w (bias + x - d)))
 
 -- ---- words of a moved row
 
@@ -106,52 +92,40 @@ pub first-moved : (words : List ℕ) (from w q r k : ℕ) → q ≡ k + biasWord
 first-moved words from w q r k e l =
     moved-word words from w (q * 64 + r) k (getD words from 0 * 2 ^ r % 2 ^ 64)
     (moved-first (rowBit words from w) (k + biasWords) q r (getD words from 0) e
-    (λ i m. ap (λ (b : ℕ). bit (getD words b 0) i) (sym (add-zero from)) ∙ full-word words from w 0 (omega arith) i m))
+    (λ i m. ap (λ (b : ℕ). bit (getD words b 0) i) (sym (add-zero from)) ∙ row-whole words from w 0 (omega arith) i m))
 
--- ---- the pixels that are kept
+-- ---- the interior of a moved row
 
-module _ (e1 e2 : List ℕ) (base from w d x : ℕ) (e : keptBit e1 e2 base from w d x ≡ 1) where
-  pub kept-first : x < w
-  kept-first = ⊎-elim (λ (l : x < w). l) (λ (l : w ≤ x). let z = row-past e1 base w x l in absurd (omega arith)) (order x w)
+first-in : (q first end : ℕ) → first ≡ min end (max (q + 1) biasWords - biasWords) → (first ≤ end) × ((k : ℕ) → first ≤ k → k < end → q + 1 ≤ k + biasWords)
+first-in q first end e = (omega arith, λ k l m. omega arith)
 
-  pub kept-partner : (d ≤ bias + x) × (bias + x - d < w)
-  unfolding movedBit
-  kept-partner = (⊎-elim before reached (order (bias + x) d), ⊎-elim (λ (l : bias + x - d < w). l) past (order (bias + x - d) w))
-    where
-      before : bias + x < d → d ≤ bias + x
-      before l = let z = back-under (rowBit e2 from w) d (bias + x) l in absurd (omega arith)
+end-in : (full q end : ℕ) → end ≡ min full (max (q + full) biasWords - biasWords)
+    → (end ≤ full) × ((k : ℕ) → k < end → k + biasWords < q + full)
+end-in full q end e = (omega arith, λ k m. omega arith)
 
-      reached : d ≤ bias + x → d ≤ bias + x
-      reached l = l
+rest-in : (first rest end : ℕ) → first ≤ end → rest ≡ end - (end - first) % 7 → ((first ≤ rest) × ((rest - first) % 7 ≡ 0)) × (rest ≤ end)
+rest-in first rest end l e = ((omega arith, omega arith), omega arith)
 
-      past : w ≤ bias + x - d → bias + x - d < w
-      past l =
-          let z = row-past e2 from w (bias + x - d) l in
-          let y = back-at (rowBit e2 from w) d (bias + x - d) (bias + x) (omega (arith, ⊎-elim before reached (order (bias + x) d))) in
-          absurd (omega arith)
+pub full-le : (w : ℕ) → w / 64 ≤ rowWords w
+unfolding rowWords
+full-le w = omega arith
 
-module _ (e1 e2 : List ℕ) (base from w d k k1 k2 : ℕ) where
-  kept-word : WordIn w (rowBit e1 base w) k k1 → WordIn w (movedBit e2 from w d) k k2
-      → ((i : ℕ) → i < 64 → w ≤ k * 64 + i → min (bit k1 i) (bit k2 i) ≡ 0) → WordOf (keptBit e1 e2 base from w d) k (bitAnd k1 k2)
-  kept-word b e p i l = bit-and k1 k2 i ∙ ⊎-elim inside past (order (k * 64 + i) w)
-    where
-      inside : k * 64 + i < w → min (bit k1 i) (bit k2 i) ≡ keptBit e1 e2 base from w d (k * 64 + i)
-      inside m = ap₂ (λ (s t : ℕ). min s t) (b i l m) (e i l m)
-
-      past : w ≤ k * 64 + i → min (bit k1 i) (bit k2 i) ≡ keptBit e1 e2 base from w d (k * 64 + i)
-      past m = let z = row-past e1 base w (k * 64 + i) m in let y = p i l m in omega arith
-
-  -- the first frame's word has no bits past w
-  pub kept-left : WordOf (rowBit e1 base w) k k1 → WordIn w (movedBit e2 from w d) k k2 → WordOf (keptBit e1 e2 base from w d) k (bitAnd k1 k2)
-  kept-left b e = kept-word (λ i l m. b i l) e (λ i l m. let z = b i l ∙ row-past e1 base w (k * 64 + i) m in omega arith)
-
--- the second frame's word has none either, and comes from the right
-pub kept-right : (e1 e2 : List ℕ) (base from w d k k2 : ℕ) → d ≤ bias → WordOf (movedBit e2 from w d) k k2
-    → WordOf (keptBit e1 e2 base from w d) k (bitAnd (getD e1 (base + k) 0) k2)
-unfolding movedBit
-kept-right e1 e2 base from w d k k2 n e =
-    kept-word e1 e2 base from w d k (getD e1 (base + k) 0) k2 (raw-word e1 base w k (base + k) refl) (λ i l m. e i l)
-    (λ i l m.
-    let x : ℕ = bias + (k * 64 + i) - d in
-    let y = e i l ∙ back-at (rowBit e2 from w) d x (bias + (k * 64 + i)) (omega arith) ∙ row-past e2 from w x (omega arith) in
-    omega arith)
+pub moves : (m : Move) (d : ℕ) → m .w ≤ 4096 → m .n ≡ rowWords (m .w) → m .r ≡ d % 64
+    → m .end ≡ min (m .w / 64) (max (m .q + m .w / 64) biasWords - biasWords) → m .first ≡ min (m .end) (max (m .q + 1) biasWords - biasWords)
+    → m .rest ≡ m .end - (m .end - m .first) % 7
+    → Moves m
+moves m d b e r f g h =
+    let s = first-in (m .q) (m .first) (m .end) g in
+    let t = end-in (m .w / 64) (m .q) (m .end) f in
+    let u = t .0 in
+    let v = full-le (m .w) in
+    let o = rest-in (m .first) (m .rest) (m .end) (s .0) h in
+    record {
+      width = b;
+      row = e;
+      bits = rw r (mod-lt d (omega arith));
+      sevens = o .0;
+      rests = o .1;
+      ends = le-trans u (rw (← e) at v);
+      inside = λ k l n. record { here = lt-of-lt-of-le n u; low = s .1 k l n; high = t .1 k n };
+    }

@@ -1,8 +1,8 @@
 -- The bits of two words, moved.
 use borrow.Author.Needs.{needs}
-use Rattle.count.proofs.MovedLaws.{joined-is}
-use Rattle.count.proofs.differences.joined_word.Statement.{statement}
-use Rattle.count.proofs.differences.joined_word.Tie as tie
+use Rattle.words.proofs.JoinLaws.{joined-is}
+use Rattle.words.proofs.moves.joined_word.Statement.{statement}
+use Rattle.words.proofs.moves.joined_word.Tie as tie
 
 shl-result : tie.Need-shl-result
 shl-result c = search needs
