@@ -1,3 +1,0 @@
--- Definitions that the cores' contracts cite.
-pub mod Ones
-pub mod Rows

@@ -1,0 +1,3 @@
+-- Laws of the difference of two frames.
+pub mod KeptLaws
+pub mod DifferLaws

@@ -1,0 +1,162 @@
+// The interior words of a row, which are most of it: no test and no mask, and seven of them at a time.
+
+use popcount::adder::seven_word_count;
+use popcount::table::word_count;
+use words::BIAS_WORDS;
+use words::moves::Move;
+use words::moves::joined_word;
+ghost use Prim.Native.Nat.{_+_, _<_, _≤_};
+ghost use Rattle.words.specs.Rows.{WordOf};
+ghost use Rattle.words.specs.Moves.{Moves};
+ghost use Rattle.popcount.specs.Table.{CountsBits};
+ghost use Rattle.popcount.specs.Rows.{Adds};
+ghost use Rattle.difference.specs.Rows.{movedDiffer, RowsIn};
+
+// The pixels of interior word k at which the two rows differ.
+fn differing_word(
+    t1: &[u64],
+    e1: &[u64],
+    t2: &[u64],
+    e2: &[u64],
+    base: usize,
+    from: usize,
+    m: Move,
+    k: usize,
+) -> u64
+    requires moves { ⌜ Moves m ⌝ }
+    requires here { ⌜ (m .first ≤ k) × (k < m .end) ⌝ }
+    requires rows { ⌜ RowsIn (now t1) (now e1) (now t2) (now e2) base from (m .w) ⌝ }
+    ensures { λ v. ⌜ WordOf (movedDiffer (now (t1 .entry)) (now (e1 .entry)) (now (t2 .entry)) (now (e2 .entry)) base from m) k v ⌝ }
+{
+    let i = base + k;
+    let j = from + k + BIAS_WORDS - m.q;
+    let kept = e1[i] & joined_word(e2[j], e2[j - 1], m.r);
+    (t1[i] ^ joined_word(t2[j], t2[j - 1], m.r)) & kept
+}
+
+// One interior word. A word with no difference is left before the look-ups.
+fn interior_word(
+    t1: &[u64],
+    e1: &[u64],
+    t2: &[u64],
+    e2: &[u64],
+    base: usize,
+    from: usize,
+    m: Move,
+    k: usize,
+    table: &[u8; 256],
+) -> u32
+    requires moves { ⌜ Moves m ⌝ }
+    requires here { ⌜ (m .first ≤ k) × (k < m .end) ⌝ }
+    requires rows { ⌜ RowsIn (now t1) (now e1) (now t2) (now e2) base from (m .w) ⌝ }
+    requires table { ⌜ CountsBits (now table) ⌝ }
+    ensures { λ r. ⌜ Adds (movedDiffer (now (t1 .entry)) (now (e1 .entry)) (now (t2 .entry)) (now (e2 .entry)) base from m) k (k + 1) r ⌝ }
+{
+    let v = differing_word(t1, e1, t2, e2, base, from, m, k);
+    if v == 0 {
+        return 0;
+    }
+    word_count(v, table)
+}
+
+// Seven interior words, from k on.
+fn interior_block(
+    t1: &[u64],
+    e1: &[u64],
+    t2: &[u64],
+    e2: &[u64],
+    base: usize,
+    from: usize,
+    m: Move,
+    k: usize,
+    table: &[u8; 256],
+) -> u32
+    requires moves { ⌜ Moves m ⌝ }
+    requires here { ⌜ (m .first ≤ k) × (k + 7 ≤ m .end) ⌝ }
+    requires rows { ⌜ RowsIn (now t1) (now e1) (now t2) (now e2) base from (m .w) ⌝ }
+    requires table { ⌜ CountsBits (now table) ⌝ }
+    ensures { λ r. ⌜ Adds (movedDiffer (now (t1 .entry)) (now (e1 .entry)) (now (t2 .entry)) (now (e2 .entry)) base from m) k (k + 7) r ⌝ }
+{
+    seven_word_count(
+        differing_word(t1, e1, t2, e2, base, from, m, k),
+        differing_word(t1, e1, t2, e2, base, from, m, k + 1),
+        differing_word(t1, e1, t2, e2, base, from, m, k + 2),
+        differing_word(t1, e1, t2, e2, base, from, m, k + 3),
+        differing_word(t1, e1, t2, e2, base, from, m, k + 4),
+        differing_word(t1, e1, t2, e2, base, from, m, k + 5),
+        differing_word(t1, e1, t2, e2, base, from, m, k + 6),
+        table,
+    )
+}
+
+// A row's interior words up to `rest`.
+fn interior_blocks(
+    t1: &[u64],
+    e1: &[u64],
+    t2: &[u64],
+    e2: &[u64],
+    base: usize,
+    from: usize,
+    m: Move,
+    table: &[u8; 256],
+) -> u32
+    requires moves { ⌜ Moves m ⌝ }
+    requires rows { ⌜ RowsIn (now t1) (now e1) (now t2) (now e2) base from (m .w) ⌝ }
+    requires table { ⌜ CountsBits (now table) ⌝ }
+    ensures { λ r. ⌜ Adds (movedDiffer (now (t1 .entry)) (now (e1 .entry)) (now (t2 .entry)) (now (e2 .entry)) base from m) (m .first) (m .rest) r ⌝ }
+{
+    let mut count: u32 = 0;
+    let mut k = m.first;
+    let rest = m.rest;
+    while k < rest {
+        count += interior_block(t1, e1, t2, e2, base, from, m, k, table);
+        k += 7;
+    }
+    count
+}
+
+// The fewer than seven that are left.
+fn interior_rest(
+    t1: &[u64],
+    e1: &[u64],
+    t2: &[u64],
+    e2: &[u64],
+    base: usize,
+    from: usize,
+    m: Move,
+    table: &[u8; 256],
+) -> u32
+    requires moves { ⌜ Moves m ⌝ }
+    requires rows { ⌜ RowsIn (now t1) (now e1) (now t2) (now e2) base from (m .w) ⌝ }
+    requires table { ⌜ CountsBits (now table) ⌝ }
+    ensures { λ r. ⌜ Adds (movedDiffer (now (t1 .entry)) (now (e1 .entry)) (now (t2 .entry)) (now (e2 .entry)) base from m) (m .rest) (m .end) r ⌝ }
+{
+    let mut count: u32 = 0;
+    let mut k = m.rest;
+    let end = m.end;
+    while k < end {
+        count += interior_word(t1, e1, t2, e2, base, from, m, k, table);
+        k += 1;
+    }
+    count
+}
+
+// All of a row's interior words.
+pub fn interior(
+    t1: &[u64],
+    e1: &[u64],
+    t2: &[u64],
+    e2: &[u64],
+    base: usize,
+    from: usize,
+    m: Move,
+    table: &[u8; 256],
+) -> u32
+    requires moves { ⌜ Moves m ⌝ }
+    requires rows { ⌜ RowsIn (now t1) (now e1) (now t2) (now e2) base from (m .w) ⌝ }
+    requires table { ⌜ CountsBits (now table) ⌝ }
+    ensures { λ r. ⌜ Adds (movedDiffer (now (t1 .entry)) (now (e1 .entry)) (now (t2 .entry)) (now (e2 .entry)) base from m) (m .first) (m .end) r ⌝ }
+{
+    interior_blocks(t1, e1, t2, e2, base, from, m, table)
+        + interior_rest(t1, e1, t2, e2, base, from, m, table)
+}

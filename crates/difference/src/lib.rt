@@ -1,0 +1,49 @@
+// The difference count of two frames' four lent bitmaps.
+
+pub mod interior;
+pub mod rows;
+
+use popcount::table::BIT_COUNTS;
+use refusals::difference_refusal;
+use rows::difference_frame;
+use rules::Counted;
+ghost use mathlib.Core.Path.{_≡_};
+ghost use Rattle.rules.specs.Calls.{differenceAnswer};
+
+// The difference count of two frames' four lent bitmaps at any two signed numbers.
+pub fn difference(
+    w: usize,
+    h: usize,
+    dx: i32,
+    dy: i32,
+    threshold1: &[u64],
+    exclusion1: &[u64],
+    threshold2: &[u64],
+    exclusion2: &[u64],
+) -> Counted
+    ensures { λ r. ⌜ r ≡ differenceAnswer w h dx dy (now (threshold1 .entry)) (now (exclusion1 .entry)) (now (threshold2 .entry)) (now (exclusion2 .entry)) ⌝ }
+{
+    let number = difference_refusal(
+        w,
+        h,
+        threshold1.len(),
+        exclusion1.len(),
+        threshold2.len(),
+        exclusion2.len(),
+    );
+    if number != 0 {
+        return Counted::Refused(number);
+    }
+    let table = BIT_COUNTS;
+    Counted::Count(difference_frame(
+        w,
+        h,
+        dx,
+        dy,
+        threshold1,
+        exclusion1,
+        threshold2,
+        exclusion2,
+        &table,
+    ))
+}

@@ -1,0 +1,2 @@
+-- Laws of the total of a bitmap.
+pub mod TotalLaws
