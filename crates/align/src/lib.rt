@@ -10,7 +10,7 @@ ghost use lib.ListN.{length};
 ghost use Rattle.rules.specs.Limits.{maxOffset};
 ghost use Rattle.rules.specs.Bitmaps.{rowWords};
 ghost use Rattle.rules.specs.Levels.{added, Near, Arrangement, arranged};
-ghost use Rattle.count.specs.Ones.{CountsOnes};
+ghost use Rattle.popcount.specs.Table.{CountsBits};
 ghost use Rattle.align.specs.Aligns.{Frames, Aligns};
 
 // An offset of the next coarser level, at this one.
@@ -35,13 +35,13 @@ pub fn align_frames(
     counts: &mut [u32],
     at: usize,
     order: &[usize; 9],
-    ones: &[u8; 256],
+    table: &[u8; 256],
 ) -> Offset
     requires frames { ⌜ Frames first second setup (length (now grey)) ⌝ }
     requires room { ⌜ 6 * (rowWords (setup .w) * setup .h) ≤ length (now words) ⌝ }
     requires levels { ⌜ at + 9 * (setup .s + 1) ≤ length (now counts) ⌝ }
     requires order { ⌜ Arrangement (now order) ⌝ }
-    requires table { ⌜ CountsOnes (now ones) ⌝ }
+    requires table { ⌜ CountsBits (now table) ⌝ }
     ensures { λ r. ⌜
         Aligns (arranged (now (order .entry))) setup first second at
         (now (grey .entry)) (now (grey .exit)) (now (counts .entry)) (now (counts .exit)) r
@@ -66,7 +66,7 @@ pub fn align_frames(
             counts,
             at,
             order,
-            ones,
+            table,
         );
     }
     let rest = 2 * (w * h);
@@ -89,7 +89,7 @@ pub fn align_frames(
         counts,
         at,
         order,
-        ones,
+        table,
     );
     let centre = doubled(coarse);
     let place = at + 9 * (s as usize);
@@ -103,7 +103,7 @@ pub fn align_frames(
         counts,
         place,
         order,
-        ones,
+        table,
     );
     aligned
 }

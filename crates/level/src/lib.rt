@@ -13,7 +13,7 @@ ghost use Rattle.rules.specs.Limits.{maxCentre};
 ghost use Rattle.rules.specs.Frames.{frameOf};
 ghost use Rattle.rules.specs.Bitmaps.{rowWords};
 ghost use Rattle.rules.specs.Levels.{Arrangement, arranged, Near};
-ghost use Rattle.count.specs.Ones.{CountsOnes};
+ghost use Rattle.popcount.specs.Table.{CountsBits};
 ghost use Rattle.level_planes.specs.Sides.{Sides};
 ghost use Rattle.level.specs.Choices.{countBy, LevelAligned};
 
@@ -30,7 +30,7 @@ pub fn align_level(
     counts: &mut [u32],
     at: usize,
     order: &[usize; 9],
-    ones: &[u8; 256],
+    table: &[u8; 256],
 ) -> Offset
     requires sides { ⌜ Sides (setup .w) (setup .h) ⌝ }
     requires percent { ⌜ (1 ≤ setup .percentile) × (setup .percentile ≤ 99) ⌝ }
@@ -39,7 +39,7 @@ pub fn align_level(
     requires near { ⌜ Near maxCentre centre ⌝ }
     requires nine { ⌜ at + 9 ≤ length (now counts) ⌝ }
     requires order { ⌜ Arrangement (now order) ⌝ }
-    requires table { ⌜ CountsOnes (now ones) ⌝ }
+    requires table { ⌜ CountsBits (now table) ⌝ }
     ensures { λ r. ⌜
         LevelAligned (arranged (now (order .entry)))
         (countBy setup (frameOf (setup .w) (drop first (now (grey .entry)))) (frameOf (setup .w) (drop second (now (grey .entry)))))
@@ -56,7 +56,7 @@ pub fn align_level(
     let n = bitmap_words(w, h);
     bitmaps_within(grey, first, setup, words, 0);
     bitmaps_within(grey, second, setup, words, 2 * n);
-    nine_counts(words, w, h, centre, counts, at, ones);
+    nine_counts(words, w, h, centre, counts, at, table);
     let best = first_least(counts, at, order);
     candidate(centre, order[best])
 }

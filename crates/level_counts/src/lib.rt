@@ -12,7 +12,7 @@ ghost use Rattle.rules.specs.Limits.{maxCentre, maxCandidate};
 ghost use Rattle.rules.specs.Bitmaps.{rowWords};
 ghost use Rattle.rules.specs.Buffers.{RowAt};
 ghost use Rattle.rules.specs.Levels.{candidateAt, Near};
-ghost use Rattle.count.specs.Ones.{CountsOnes};
+ghost use Rattle.popcount.specs.Table.{CountsBits};
 ghost use Rattle.level_planes.specs.Sides.{Sides};
 ghost use Rattle.level_counts.specs.Places.{nineOf, columnOf, KeptTo, SlidAt, wordsCount};
 
@@ -29,12 +29,12 @@ fn slide_second(words: &mut [u64], w: usize, h: usize, dx: i32)
 }
 
 // The count at an offset whose dx the second frame has been slid by.
-fn count_slid(words: &[u64], w: usize, h: usize, m: Offset, ones: &[u8; 256]) -> u32
+fn count_slid(words: &[u64], w: usize, h: usize, m: Offset, table: &[u8; 256]) -> u32
     requires sides { ⌜ Sides w h ⌝ }
     requires room { ⌜ 6 * (rowWords w * h) ≤ length (now words) ⌝ }
     requires near { ⌜ Near maxCandidate m ⌝ }
     requires slid { ⌜ SlidAt w h (m .dx) (now words) ⌝ }
-    requires table { ⌜ CountsOnes (now ones) ⌝ }
+    requires table { ⌜ CountsBits (now table) ⌝ }
     ensures { λ r. ⌜ r ≡ wordsCount w h (now (words .entry)) m ⌝ }
 {
     let n = bitmap_words(w, h);
@@ -46,7 +46,7 @@ fn count_slid(words: &[u64], w: usize, h: usize, m: Offset, ones: &[u8; 256]) ->
         &words[n..],
         &words[4 * n..],
         &words[5 * n..],
-        ones,
+        table,
     )
 }
 
@@ -59,7 +59,7 @@ fn three_counts(
     i: usize,
     counts: &mut [u32],
     at: usize,
-    ones: &[u8; 256],
+    table: &[u8; 256],
 )
     requires sides { ⌜ Sides w h ⌝ }
     requires room { ⌜ 6 * (rowWords w * h) ≤ length (now words) ⌝ }
@@ -67,13 +67,13 @@ fn three_counts(
     requires column { ⌜ i < 3 ⌝ }
     requires slid { ⌜ SlidAt w h (candidateAt centre (3 * i) .dx) (now words) ⌝ }
     requires three { ⌜ at + 3 ≤ length (now counts) ⌝ }
-    requires table { ⌜ CountsOnes (now ones) ⌝ }
+    requires table { ⌜ CountsBits (now table) ⌝ }
     ensures { λ _. ⌜ RowAt at (columnOf (wordsCount w h (now (words .entry))) centre i) (now (counts .entry)) 3 (now (counts .exit)) ⌝ }
 {
     let mut j: usize = 0;
     while j < 3 {
         let m = candidate(centre, 3 * i + j);
-        counts[at + j] = count_slid(words, w, h, m, ones);
+        counts[at + j] = count_slid(words, w, h, m, table);
         j += 1;
     }
 }
@@ -87,20 +87,20 @@ pub fn nine_counts(
     centre: Offset,
     counts: &mut [u32],
     at: usize,
-    ones: &[u8; 256],
+    table: &[u8; 256],
 )
     requires sides { ⌜ Sides w h ⌝ }
     requires room { ⌜ 6 * (rowWords w * h) ≤ length (now words) ⌝ }
     requires near { ⌜ Near maxCentre centre ⌝ }
     requires nine { ⌜ at + 9 ≤ length (now counts) ⌝ }
-    requires table { ⌜ CountsOnes (now ones) ⌝ }
+    requires table { ⌜ CountsBits (now table) ⌝ }
     ensures { λ _. ⌜ RowAt at (nineOf (wordsCount w h (now (words .entry))) centre) (now (counts .entry)) 9 (now (counts .exit)) ⌝ }
 {
     let mut i: usize = 0;
     while i < 3 {
         let m = candidate(centre, 3 * i);
         slide_second(words, w, h, m.dx);
-        three_counts(words, w, h, centre, i, counts, at + 3 * i, ones);
+        three_counts(words, w, h, centre, i, counts, at + 3 * i, table);
         i += 1;
     }
 }

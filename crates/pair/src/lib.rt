@@ -46,7 +46,13 @@ pub fn pair(
     if n != 0 {
         return Paired::Refused(n);
     }
-    let setup = Setup { w, h, s, percentile, exclusion: Exclusion::Tolerance(tolerance) };
+    let setup = Setup {
+        w,
+        h,
+        s,
+        percentile,
+        exclusion: Exclusion::Tolerance(tolerance),
+    };
     let order = WARD;
     Paired::Moved(align_rasters(setup, first, second, counts, grey, words, &order))
 }

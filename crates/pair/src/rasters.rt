@@ -1,8 +1,8 @@
 // The core of a pair call: both rasters' grey frames in the lent memory, aligned.
 
 use align::align_frames;
-use count::ones::ONES;
 use grey::conversion::convert;
+use popcount::table::BIT_COUNTS;
 use rules::Offset;
 use rules::Setup;
 ghost use mathlib.Core.Path.{_≡_};
@@ -33,10 +33,16 @@ pub fn align_rasters(
         ≡ writtenOver (pairResult (arranged (now (order .entry))) setup (now (first .entry)) (now (second .entry)) .counts) (now (counts .entry))
         ⌝ }
 {
-    let Setup { w, h, s, percentile, exclusion } = setup;
+    let Setup {
+        w,
+        h,
+        s,
+        percentile,
+        exclusion,
+    } = setup;
     let area = w * h;
     convert(first, area, grey, 0);
     convert(second, area, grey, area);
-    let ones = ONES;
-    align_frames(grey, 0, area, setup, words, counts, 0, order, &ones)
+    let table = BIT_COUNTS;
+    align_frames(grey, 0, area, setup, words, counts, 0, order, &table)
 }

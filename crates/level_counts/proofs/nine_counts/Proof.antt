@@ -16,11 +16,11 @@ use Rattle.level_counts.proofs.nine_counts.Statement.{statement}
 use Rattle.level_counts.proofs.nine_counts.Tie as tie
 
 abbrev Inv-loop : tie.InvT-loop
-Inv-loop words₀ w h centre counts₀ at ones i₀ words counts i =
+Inv-loop words₀ w h centre counts₀ at table i₀ words counts i =
     (i ≤ 3) × (KeptTo (4 * (rowWords w * h)) words₀ words × RowAt at (nineOf (wordsCount w h words₀) centre) counts₀ (3 * i) counts)
 
 abbrev μ-loop : tie.MeasureT-loop
-μ-loop words₀ w h centre counts₀ at ones i₀ words counts i = 3 - i
+μ-loop words₀ w h centre counts₀ at table i₀ words counts i = 3 - i
 
 loop-holds : tie.Need-loop-holds Inv-loop μ-loop
 loop-holds c =

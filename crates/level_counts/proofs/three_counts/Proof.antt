@@ -13,10 +13,10 @@ use Rattle.level_counts.proofs.three_counts.Statement.{statement}
 use Rattle.level_counts.proofs.three_counts.Tie as tie
 
 abbrev Inv-loop : tie.InvT-loop
-Inv-loop words w h centre i counts₀ at ones j₀ counts j = (j ≤ 3) × RowAt at (columnOf (wordsCount w h words) centre i) counts₀ j counts
+Inv-loop words w h centre i counts₀ at table j₀ counts j = (j ≤ 3) × RowAt at (columnOf (wordsCount w h words) centre i) counts₀ j counts
 
 abbrev μ-loop : tie.MeasureT-loop
-μ-loop words w h centre i counts₀ at ones j₀ counts j = 3 - j
+μ-loop words w h centre i counts₀ at table j₀ counts j = 3 - j
 
 loop-holds : tie.Need-loop-holds Inv-loop μ-loop
 loop-holds c =
