@@ -1,2 +1,3 @@
--- Laws of the recursion.
+-- Laws of the recursion, and of what it is given and leaves.
 pub mod AlignLaws
+pub mod WrittenLaws

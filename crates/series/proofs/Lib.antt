@@ -1,3 +1,2 @@
--- Laws of the pairs' runs over plain lists.
-pub mod RunLaws
-pub mod DemandLaws
+-- The answer as the call gives it.
+pub mod AnswerLaws

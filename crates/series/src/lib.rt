@@ -1,17 +1,16 @@
 // Alignment of a series: the offered call.
 
-pub mod runs;
-pub mod twice;
+mod frames;
 
 use align_refusals::series_refusal;
-use offsets::sum_about;
+use candidates::WARD;
+use frames::align_series;
 use refusals::tolerance_refusal;
+use rules::Exclusion;
+use rules::Setup;
 use rules::Written;
-use runs::align_pairs;
-ghost use mathlib.Core.Path.{_≡_};
-ghost use Rattle.rules.specs.Answers.{written, bufferAfter};
-ghost use Rattle.rules.specs.Calls.{seriesNumber, settings};
-ghost use Rattle.rules.specs.Series.{seriesAnswer};
+ghost use Rattle.rules.specs.Levels.{wardOrder};
+ghost use Rattle.rules.specs.Calls.{toleranceSettings, SeriesCall};
 
 // The offsets of all frames of a series from its reference, and the counts of its pairs.
 pub fn series(
@@ -28,16 +27,18 @@ pub fn series(
     grey: &mut [u8],
     words: &mut [u64],
 ) -> Written
-    ensures answer { λ k. ⌜ k ≡ written (seriesNumber w h s tolerance n r (now (percentiles .entry)) (now (rasters .entry)) (now (offsets .entry)) (now (counts .entry)) (now (grey .entry)) (now (words .entry))) ⌝ }
-    ensures offsets { λ _. ⌜ now (offsets .exit) ≡ bufferAfter (seriesNumber w h s tolerance n r (now (percentiles .entry)) (now (rasters .entry)) (now (offsets .entry)) (now (counts .entry)) (now (grey .entry)) (now (words .entry))) (seriesAnswer (settings w h s tolerance n r (now (percentiles .entry))) (now (rasters .entry)) .offsets) (now (offsets .entry)) ⌝ }
-    ensures counts { λ _. ⌜ now (counts .exit) ≡ bufferAfter (seriesNumber w h s tolerance n r (now (percentiles .entry)) (now (rasters .entry)) (now (offsets .entry)) (now (counts .entry)) (now (grey .entry)) (now (words .entry))) (seriesAnswer (settings w h s tolerance n r (now (percentiles .entry))) (now (rasters .entry)) .counts) (now (counts .entry)) ⌝ }
-    ensures memory { λ _. ⌜ ((seriesNumber w h s tolerance n r (now (percentiles .entry)) (now (rasters .entry)) (now (offsets .entry)) (now (counts .entry)) (now (grey .entry)) (now (words .entry)) ≡ 0 → ⊥) → (now (grey .exit) ≡ now (grey .entry)) × (now (words .exit) ≡ now (words .entry))) ⌝ }
+    ensures { λ k. ⌜
+        SeriesCall wardOrder (toleranceSettings w h s tolerance n r (now (percentiles .entry))) (now (rasters .entry))
+        (now (offsets .entry)) (now (offsets .exit)) (now (counts .entry)) (now (counts .exit))
+        (now (grey .entry)) (now (grey .exit)) (now (words .entry)) (now (words .exit)) k
+        ⌝ }
 {
+    let excluded = tolerance_refusal(tolerance);
     let number = series_refusal(
         w,
         h,
         s,
-        tolerance_refusal(tolerance),
+        excluded,
         n,
         r,
         percentiles,
@@ -50,11 +51,17 @@ pub fn series(
     if number != 0 {
         return Written::Refused(number);
     }
-    align_pairs(
+    // each pair's percentile takes the place of the setup's
+    let setup = Setup {
         w,
         h,
         s,
-        tolerance,
+        percentile: 0,
+        exclusion: Exclusion::Tolerance(tolerance),
+    };
+    let order = WARD;
+    align_series(
+        setup,
         n,
         r,
         percentiles,
@@ -63,7 +70,7 @@ pub fn series(
         counts,
         grey,
         words,
+        &order,
     );
-    sum_about(offsets, n, r);
     Written::Done
 }

@@ -25,8 +25,8 @@ loop-holds c = let s = c .before .before .before .before in (s .pre .0, adds-non
 run-word-requires : tie.Need-run-word-requires Inv-loop μ-loop
 run-word-requires c κs = (c .loop-test .taken, c .before .before .before .before .before .before .pre .1 .0)
 
-word-table-requires : tie.Need-word-table-requires Inv-loop μ-loop
-word-table-requires c κs = search needs
+word-count-requires : tie.Need-word-count-requires Inv-loop μ-loop
+word-count-requires c κs = search needs
 
 add-count : tie.Need-add-count Inv-loop μ-loop
 add-count c =
@@ -37,8 +37,8 @@ add-count c =
     omega (
       arith,
       s .pre .1 .0 .short,
-      adds-next-le (run s) (a .rest) (l .k) (l .k + 1) (l .count) (c .word-table .result) (runDiffer-lt (a .t1 .now) (a .e1 .now) (a .t2 .now) (a .e2 .now) (a .i) (a .x)) (l .inv .1)
-          (word-adds (run s) (l .k) (v .result) (c .word-table .result) (v .ensures) (c .word-table .ensures)),
+      adds-next-le (run s) (a .rest) (l .k) (l .k + 1) (l .count) (c .word-count .result) (runDiffer-lt (a .t1 .now) (a .e1 .now) (a .t2 .now) (a .e2 .now) (a .i) (a .x)) (l .inv .1)
+          (word-adds (run s) (l .k) (v .result) (c .word-count .result) (v .ensures) (c .word-count .ensures)),
     )
 
 add-k : tie.Need-add-k Inv-loop μ-loop
@@ -52,7 +52,7 @@ loop-again c =
     let s = c .before .before .before .before .before .before .before .before in
     let l = c .before .before .before .loop in
     let v = c .before .run-word in
-    (omega arith, word-next (run s) (s .args .rest) (l .k) (l .count) (v .result) (c .word-table .result) (l .inv .1) (v .ensures) (c .word-table .ensures))
+    (omega arith, word-next (run s) (s .args .rest) (l .k) (l .count) (v .result) (c .word-count .result) (l .inv .1) (v .ensures) (c .word-count .ensures))
 
 returns : tie.Need-returns Inv-loop μ-loop
 returns c =
@@ -68,7 +68,7 @@ run-rest-spec =
     μ-loop
     loop-holds
     run-word-requires
-    word-table-requires
+    word-count-requires
     add-count
     add-k
     loop-less

@@ -1,8 +1,8 @@
 -- Each arm is the definition at its parity.
-use Rattle.series.proofs.RunLaws.{place-even, place-odd}
+use Rattle.series_pairs.proofs.RunLaws.{place-even, place-odd}
 use mathlib.Core.Path.{sym}
-use Rattle.series.proofs.runs.place.Statement.{statement}
-use Rattle.series.proofs.runs.place.Tie as tie
+use Rattle.series_pairs.proofs.place.Statement.{statement}
+use Rattle.series_pairs.proofs.place.Tie as tie
 
 returns : tie.Need-returns
 returns c = sym (place-even _ _ (c .if1 .taken))
