@@ -13,6 +13,7 @@ use lib.Pow.{pow-mono}
 use borrow.Rule.Slice.PartAt.{part-to-end}
 use borrow.Author.Tests.{eq-eqb, ne-eqb}
 use Rattle.rules.specs.declared.Offset.{Offset}
+use Rattle.rules.specs.declared.Exclusion.{Exclusion}
 use Rattle.rules.specs.declared.Setup.{Setup}
 use Rattle.rules.specs.Limits.{maxOffset}
 use Rattle.rules.specs.Frames.{frameOf, writtenOver, SameFrame}
@@ -31,7 +32,7 @@ use Rattle.align.specs.Aligns.{Frames, Aligns, alignedIn}
 use Rattle.align.proofs.AlignLaws.{counts-length}
 use Rattle.align.proofs.WrittenLaws.{converted, row-written}
 use Rattle.offsets.specs.Pairs.{withOffset, SmallPairs}
-use Rattle.offsets.proofs.PairLaws.{put-next, written-pair}
+use Rattle.offsets.proofs.PairLaws.{put-next, written-length, written-pair}
 use Rattle.series_pairs.specs.Runs.{placeOf, frameAt, Stands, pairAt, setupAt, pairsOf, Room, PairsOk, Ran, Run, AllRan}
 
 -- The two places.
@@ -104,6 +105,15 @@ module _ (each : ℕ) (pairs : ℕ → Aligned) (sizes : (j : ℕ) → length (p
 pub pair-sizes : (preferred : List Offset) (S : Setup) (percentiles rasters : List ℕ) (j : ℕ) → length (pairsOf preferred S percentiles rasters j .counts) ≡ 9 * (S .s + 1)
 pair-sizes preferred S percentiles rasters j =
     counts-length preferred (ruleOf (S .exclusion)) (getD percentiles j 0) (S .s) (S .w) (S .h) (frameAt S rasters j) (frameAt S rasters (j + 1))
+
+-- a setup from its parts
+abbrev pub made : ℕ → ℕ → ℕ → ℕ → Exclusion → Setup
+made w h s percentile exclusion = record { w = w; h = h; s = s; percentile = percentile; exclusion = exclusion }
+
+-- writing pairs' offsets leaves their list as long as it was
+pub pairs-length : (n k : ℕ) (answers : ℕ → Aligned) (pairs pairs′ : List ℤ) → k + 1 ≤ n → 2 * (n - 1) ≤ length pairs
+    → pairs′ ≡ writtenOver (offsetList k (λ j. answers j .offset)) pairs → length pairs′ ≡ length pairs
+pairs-length n k answers pairs pairs′ l room e = ap length e ∙ written-length k (λ j. answers j .offset) pairs (omega arith)
 
 -- What an accepted series has for pair k.
 pub room-at : (S : Setup) (n : ℕ) (ps : List ℕ) (rasters pairs counts grey words k : ℕ)
