@@ -1,8 +1,8 @@
 -- Laws of the numbers that stand first, of the shortest side that s halvings allow, of a bitmap's length, and of the walk over the percentiles.
-use mathlib.Core.Path.{_≡_, sym, _∙_}
+use mathlib.Core.Path.{_≡_, refl, sym, _∙_}
 use mathlib.Core.Bool.{true, false}
 use mathlib.Core.List.{List}
-use Prim.Native.Nat.{ℕ, _+_, _*_, _%_, _^_, _≤_, _<_}
+use Prim.Native.Nat.{ℕ, zero, suc, _+_, _*_, _%_, _^_, _≤_, _<_}
 use native.Mathlib.Nat.{mul-comm, mul-le-mul}
 use native.Mathlib.Numerals.{add-one}
 use native.Mathlib.Omega.{arith}
@@ -11,25 +11,37 @@ use lib.ListN.{length, drop, getD, drop-of-length-le}
 use lib.Seq.{drop-cons}
 use Rattle.rules.specs.Bitmaps.{rowWords}
 use Rattle.rules.specs.Refusals.{_when_, _orElse_, badSize, badHalvings, tooSmall, shapeRefusal, badFrames, badReference, badPercentile, someBadPercentile}
-use Rattle.rules.proofs.AlignmentLaws.{first-of-three, none-of-three}
 
--- The shape's number k stands before the rest where it is not 0, else the rest is left.
+-- A number k of three conditions, the first of a call's: where it is not 0 it is the call's, else the rest is.
+first-of-three : (k a b c rest : ℕ) → k ≡ a orElse b orElse c → (k ≡ 0 → ⊥) → k ≡ a orElse b orElse c orElse rest
+first-of-three k zero zero zero rest e l = absurd (l e)
+first-of-three k zero zero (suc c) rest e l = e
+first-of-three k zero (suc b) c rest e l = e
+first-of-three k (suc a) b c rest e l = e
+
+none-of-three : (k a b c rest : ℕ) → k ≡ a orElse b orElse c → k ≡ 0 → a orElse b orElse c orElse rest ≡ rest
+none-of-three k zero zero zero rest e z = refl
+none-of-three k zero zero (suc c) rest e z = absurd (omega arith)
+none-of-three k zero (suc b) c rest e z = absurd (omega arith)
+none-of-three k (suc a) b c rest e z = absurd (omega arith)
+
+-- The shape's number.
 pub shape-first : (w h s k rest : ℕ) → k ≡ shapeRefusal w h s → (k ≡ 0 → ⊥)
     → k ≡ 2 when badSize w h orElse 3 when badHalvings s orElse 4 when tooSmall w h s orElse rest
 shape-first w h s k = first-of-three k (2 when badSize w h) (3 when badHalvings s) (4 when tooSmall w h s)
 
 pub shape-pass : (w h s k : ℕ) → k ≡ shapeRefusal w h s → k ≡ 0 → (rest : ℕ)
     → 2 when badSize w h orElse 3 when badHalvings s orElse 4 when tooSmall w h s orElse rest ≡ rest
-shape-pass w h s k e z rest = sym (none-of-three k (2 when badSize w h) (3 when badHalvings s) (4 when tooSmall w h s) rest e z)
+shape-pass w h s k e z rest = none-of-three k (2 when badSize w h) (3 when badHalvings s) (4 when tooSmall w h s) rest e z
 
--- The same of the number of the exclusion, the frames and the reference.
+-- The number of the exclusion, the frames and the reference.
 pub frames-first : (excluded n r k rest : ℕ) → k ≡ excluded orElse 6 when badFrames n orElse 7 when badReference n r → (k ≡ 0 → ⊥)
     → k ≡ excluded orElse 6 when badFrames n orElse 7 when badReference n r orElse rest
 frames-first excluded n r k = first-of-three k excluded (6 when badFrames n) (7 when badReference n r)
 
 pub frames-pass : (excluded n r k : ℕ) → k ≡ excluded orElse 6 when badFrames n orElse 7 when badReference n r → k ≡ 0 → (rest : ℕ)
     → excluded orElse 6 when badFrames n orElse 7 when badReference n r orElse rest ≡ rest
-frames-pass excluded n r k e z rest = sym (none-of-three k excluded (6 when badFrames n) (7 when badReference n r) rest e z)
+frames-pass excluded n r k e z rest = none-of-three k excluded (6 when badFrames n) (7 when badReference n r) rest e z
 
 -- the shift loses no bit
 pub shortest-side : (s : ℕ) → s ≤ 8 → 4 * 2 ^ s % 2 ^ 64 ≡ 2 ^ (s + 2)

@@ -15,21 +15,9 @@ use Rattle.rules.specs.Refusals.{_when_, _orElse_, shapeRefusal, badSize
 use Rattle.rules.specs.Refusals.{wrongLength, short, rasterLength, countsLength, levelPixels, greyNeeded, wordsNeeded, shortMemory, pairRefusal, seriesRefusal}
 use Rattle.rules.specs.Accepted.{ShapeOk, PairOk, FramesOk, SeriesOk}
 use Rattle.rules.specs.Answers.{paired}
-use Rattle.rules.proofs.RefusalLaws.{when-no, orElse-no, or-no, size-ok, length-is, percentile-ok}
+use Rattle.rules.proofs.RefusalLaws.{when-no, orElse-no, or-no, size-ok, length-is, length-no, room-no, percentile-ok}
 
--- A number k of three conditions, the first of a call's: where it is not 0 it is the call's, else the rest is.
-pub first-of-three : (k a b c rest : ℕ) → k ≡ a orElse b orElse c → (k ≡ 0 → ⊥) → k ≡ a orElse b orElse c orElse rest
-first-of-three k zero zero zero rest e l = absurd (l e)
-first-of-three k zero zero (suc c) rest e l = e
-first-of-three k zero (suc b) c rest e l = e
-first-of-three k (suc a) b c rest e l = e
-
-pub none-of-three : (k a b c rest : ℕ) → k ≡ a orElse b orElse c → k ≡ 0 → rest ≡ a orElse b orElse c orElse rest
-none-of-three k zero zero zero rest e z = refl
-none-of-three k zero zero (suc c) rest e z = absurd (omega arith)
-none-of-three k zero (suc b) c rest e z = absurd (omega arith)
-none-of-three k (suc a) b c rest e z = absurd (omega arith)
-
+-- A number of three conditions that is 0, and the rest.
 three-no : (a b c rest : ℕ) → a orElse b orElse c orElse rest ≡ 0 → (a orElse b orElse c ≡ 0) × (rest ≡ 0)
 three-no zero zero zero rest e = (refl, e)
 three-no zero zero (suc c) rest e = absurd (omega arith)
@@ -110,7 +98,7 @@ pair-ok w h s excluded percentile first second counts grey words e =
       most = p .1;
       exact1 = length-is (rasterLength w h) first (q .0);
       exact2 = length-is (rasterLength w h) second (q .1);
-      room = ltb-false counts (countsLength s) (when-no 10 (short (countsLength s) counts) (omega arith) (d .0));
+      room = room-no (countsLength s) counts (d .0);
       greys = m .0;
       bitmaps = m .1;
     }
@@ -165,7 +153,7 @@ series-ok w h s excluded n r ps rasters offsets counts grey words e =
       reference = f .reference;
       percentiles = many;
       percentile = λ j l. percentiles-ok ps (p .1) j (omega arith);
-      exact = length-is (n * rasterLength w h) rasters (when-no 9 (wrongLength (n * rasterLength w h) rasters) (omega arith) (d .0));
+      exact = length-no (n * rasterLength w h) rasters (d .0);
       room1 = ltb-false offsets (2 * n) (q .0);
       room2 = ltb-false counts (countsLength s * (n - 1)) (q .1);
       greys = m .0;

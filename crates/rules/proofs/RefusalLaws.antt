@@ -71,6 +71,13 @@ size-known w h t e z = size-ok w h (rw (sym e ∙ z))
 pub length-is : (needed length : ℕ) → wrongLength needed length ≡ false → length ≡ needed
 length-is needed length e = eqb-true length needed (not-false (eqb length needed) e)
 
+-- 9 and 10 that are not given.
+pub length-no : (needed length : ℕ) → 9 when wrongLength needed length ≡ 0 → length ≡ needed
+length-no needed length e = length-is needed length (when-no 9 (wrongLength needed length) (omega arith) e)
+
+pub room-no : (needed length : ℕ) → 10 when short needed length ≡ 0 → needed ≤ length
+room-no needed length e = ltb-false length needed (when-no 10 (short needed length) (omega arith) e)
+
 pub grey-ok : (w h raster grey : ℕ) → greyRefusal w h raster grey ≡ 0 → GreyOk w h raster grey
 unfolding greyRefusal
 grey-ok w h raster grey e =
@@ -78,8 +85,8 @@ grey-ok w h raster grey e =
     let q = orElse-no (9 when wrongLength (rasterLength w h) raster) (10 when short (greyLength w h) grey) (p .1) in
     record {
       size = size-ok w h (p .0);
-      exact = length-is (rasterLength w h) raster (when-no 9 (wrongLength (rasterLength w h) raster) (omega arith) (q .0));
-      room = ltb-false grey (greyLength w h) (when-no 10 (short (greyLength w h) grey) (omega arith) (q .1));
+      exact = length-no (rasterLength w h) raster (q .0);
+      room = room-no (greyLength w h) grey (q .1);
     }
 
 pub halve-ok : (w h grey out : ℕ) → halveRefusal w h grey out ≡ 0 → HalveOk w h grey out
@@ -96,8 +103,8 @@ halve-ok w h grey out e =
       size = size-ok w h (p .0);
       wide = ltb-false w 2 (s .0);
       high = ltb-false h 2 (s .1);
-      exact = length-is (greyLength w h) grey (when-no 9 (wrongLength (greyLength w h) grey) (omega arith) (r .0));
-      room = ltb-false out (greyLength (w / 2) (h / 2)) (when-no 10 (short (greyLength (w / 2) (h / 2)) out) (omega arith) (r .1));
+      exact = length-no (greyLength w h) grey (r .0);
+      room = room-no (greyLength (w / 2) (h / 2)) out (r .1);
     }
 
 pub percentile-ok : (p : ℕ) → badPercentile p ≡ false → (1 ≤ p) × (p ≤ 99)
@@ -128,7 +135,7 @@ threshold-ok w h percentile grey e =
       size = size-ok w h (p .0);
       least = r .0;
       most = r .1;
-      exact = length-is (greyLength w h) grey (when-no 9 (wrongLength (greyLength w h) grey) (omega arith) (q .1));
+      exact = length-no (greyLength w h) grey (q .1);
     }
 
 pub bitmaps-ok : (w h tolerance grey thresholds exclusions : ℕ) → bitmapsRefusal w h tolerance grey thresholds exclusions ≡ 0
@@ -147,7 +154,7 @@ bitmaps-ok w h tolerance grey thresholds exclusions e =
     record {
       size = size-ok w h (p .0);
       most = ltb-false maxTolerance tolerance (when-no 5 (badTolerance tolerance) (omega arith) (q .0));
-      exact = length-is (greyLength w h) grey (when-no 9 (wrongLength (greyLength w h) grey) (omega arith) (r .0));
+      exact = length-no (greyLength w h) grey (r .0);
       room1 = ltb-false thresholds (bitmapLength w h) (s .0);
       room2 = ltb-false exclusions (bitmapLength w h) (s .1);
     }
@@ -161,8 +168,8 @@ shift-ok w h bitmap out e =
     let q = orElse-no n9 n10 (p .1) in
     record {
       size = size-ok w h (p .0);
-      exact = length-is (bitmapLength w h) bitmap (when-no 9 (wrongLength (bitmapLength w h) bitmap) (omega arith) (q .0));
-      room = ltb-false out (bitmapLength w h) (when-no 10 (short (bitmapLength w h) out) (omega arith) (q .1));
+      exact = length-no (bitmapLength w h) bitmap (q .0);
+      room = room-no (bitmapLength w h) out (q .1);
     }
 
 pub total-ok : (w h bitmap : ℕ) → totalRefusal w h bitmap ≡ 0 → TotalOk w h bitmap
@@ -172,7 +179,7 @@ total-ok w h bitmap e =
     let p = orElse-no (2 when badSize w h) n9 e in
     record {
       size = size-ok w h (p .0);
-      exact = length-is (bitmapLength w h) bitmap (when-no 9 (wrongLength (bitmapLength w h) bitmap) (omega arith) (p .1));
+      exact = length-no (bitmapLength w h) bitmap (p .1);
     }
 
 pub difference-ok : (w h threshold1 exclusion1 threshold2 exclusion2 : ℕ)

@@ -4,7 +4,6 @@ use borrow.Author.Tests.{lt-ltb, le-ltb}
 use Rattle.rules.specs.Refusals.{badHalvings, tooSmall}
 use Rattle.rules.proofs.RefusalLaws.{orElse-none}
 use Rattle.align_refusals.proofs.AlignRefusalLaws.{shortest-side}
-use native.Mathlib.Omega.{arith}
 use borrow.Author.Needs.{needs}
 use Rattle.align_refusals.proofs.shape_refusal.Statement.{statement}
 use Rattle.align_refusals.proofs.shape_refusal.Tie as tie
