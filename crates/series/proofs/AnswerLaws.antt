@@ -1,5 +1,5 @@
 -- What the pairs and their sums leave is the series' answer.
-use mathlib.Core.Path.{_≡_, ap, _∙_}
+use mathlib.Core.Path.{_≡_, refl, ap, _∙_}
 use mathlib.Core.List.{List}
 use Prim.Native.Nat.{ℕ, _*_, _-_, _≤_, _<_}
 use native.Mathlib.Omega.{arith}
@@ -7,9 +7,12 @@ use lib.IntN.{ℤ}
 use lib.ListN.{length}
 use Rattle.rules.specs.declared.Offset.{Offset}
 use Rattle.rules.specs.declared.Setup.{Setup}
+use Rattle.rules.specs.declared.Written.{Written}
 use Rattle.rules.specs.Frames.{writtenOver}
 use Rattle.rules.specs.Accepted.{SeriesOk}
-use Rattle.rules.specs.Series.{greyOf, pairOf, frameOffset, offsetList, answerOf, answerBy, seriesAnswer}
+use Rattle.rules.specs.Series.{greyOf, pairOf, frameOffset, offsetList, Answer, answerOf, answerBy, seriesAnswer}
+use Rattle.rules.specs.Calls.{SeriesLeft}
+use Rattle.rules.proofs.RefusalLaws.{written-refused, buffer-refused}
 use Rattle.rules.proofs.SeriesLaws.{frame-list-ext}
 use Rattle.offsets.specs.Pairs.{pairOffset}
 use Rattle.offsets.proofs.PairLaws.{written-pair}
@@ -46,3 +49,20 @@ module _ (preferred : List Offset) (S : Setup) (n r : ℕ) (ps rasters : List �
   pub answer-counts : counts′ ≡ writtenOver (seriesAnswer preferred (settingsOf S n r ps) rasters .counts) counts
   unfolding seriesAnswer answerBy answerOf pairOf greyOf
   answer-counts = ran .written
+
+-- What a refused call leaves, and an accepted one.
+pub refused-left : (n number : ℕ) (result : Answer) (offsets : List ℤ) (counts grey words : List ℕ) → n ≡ number → (n ≡ 0 → ⊥)
+    → SeriesLeft number result offsets offsets counts counts grey grey words words (Written.Refused n)
+refused-left n number result offsets counts grey words e l =
+    rw (← e) (record {
+      answered = written-refused n l;
+      offsetsAre = buffer-refused n (result .offsets) offsets l;
+      countsAre = buffer-refused n (result .counts) counts l;
+      memoryKept = λ f. (refl, refl);
+    })
+
+pub accepted-left : (number : ℕ) (result : Answer) (offsets offsets′ : List ℤ) (counts counts′ grey grey′ words words′ : List ℕ) → number ≡ 0
+    → offsets′ ≡ writtenOver (result .offsets) offsets → counts′ ≡ writtenOver (result .counts) counts
+    → SeriesLeft number result offsets offsets′ counts counts′ grey grey′ words words′ Written.Done
+accepted-left number result offsets offsets′ counts counts′ grey grey′ words words′ z o c =
+    rw z (record { answered = refl; offsetsAre = o; countsAre = c; memoryKept = λ f. absurd (f refl) })

@@ -6,7 +6,9 @@ use lib.IntN.{ℤ}
 use lib.ListN.{length, take}
 use Rattle.rules.specs.declared.Written.{Written}
 use Rattle.rules.specs.Series.{Settings, Answer, seriesAnswer}
-use Rattle.reexposure.specs.Reexposure.{Reexposed, Bounded}
+use Rattle.rules.specs.declared.Offset.{Offset}
+use Rattle.rules.specs.Levels.{ruleOf}
+use Rattle.reexposure.specs.Reexposure.{Reexposed, Bounded, ByOrder}
 
 -- "Its packed answer is the offsets and counts that this call writes": of what the two buffers hold when it returns,
 -- the first 2·N offsets and 9·(s+1)·(N−1) counts.
@@ -17,11 +19,11 @@ packedAnswer S offsets counts = record {
 }
 
 -- "Let F be any accepted series of N frames with s halvings, reference r and tolerance 0. Let F' be any series with the same sizes and settings in
--- which, within each frame, any two pixels compare in grey (darker, equal, brighter) as they do in F": F's refusal number is 0, and F' is handed
--- over with lent buffers of the same lengths.
+-- which, within each frame, any two pixels compare in grey (darker, equal, brighter) as they do in F": F's refusal number is 0, its exclusion rule
+-- sees grey values by their order alone, as tolerance 0 does, and F' is handed over with lent buffers of the same lengths.
 pub record Given (S : Settings) (F F′ : List ℕ) (number : ℕ) (offsets offsets′ : List ℤ) (counts counts′ : List ℕ) : Type 0 where
   pub accepted : number ≡ 0
-  pub tolerance : S .tolerance ≡ 0
+  pub byOrder : ByOrder (ruleOf (S .exclusion))
   pub sizes : length F′ ≡ length F
   pub room1 : length offsets′ ≡ length offsets
   pub room2 : length counts′ ≡ length counts
@@ -29,10 +31,11 @@ pub record Given (S : Settings) (F F′ : List ℕ) (number : ℕ) (offsets offs
 
 -- "Then the packed answers for F and for F' are the same, and both equal the pixel-by-pixel answer for F': every offset and all 9·(s+1)·(N−1)
 -- counts. In both, frame k's offset is in size at most |k−r|·(2^(s+1)−1) on each axis." And "F' is accepted too".
-pub record Demanded (S : Settings) (F′ : List ℕ) (answer′ : Written) (packed packed′ : Answer) : Type 0 where
+-- `preferred` is the order of the nine that the call uses.
+pub record Demanded (preferred : List Offset) (S : Settings) (F′ : List ℕ) (answer′ : Written) (packed packed′ : Answer) : Type 0 where
   pub accepted : answer′ ≡ Written.Done
   pub same : packed ≡ packed′
-  pub pixels : packed ≡ seriesAnswer S F′
-  pub pixels′ : packed′ ≡ seriesAnswer S F′
+  pub pixels : packed ≡ seriesAnswer preferred S F′
+  pub pixels′ : packed′ ≡ seriesAnswer preferred S F′
   pub bound : Bounded S packed
   pub bound′ : Bounded S packed′

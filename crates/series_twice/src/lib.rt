@@ -1,14 +1,15 @@
 // Demand 3 as a contract: the series call, made for a series and for another one.
 
-use crate::series;
 use rules::Written;
-ghost use Rattle.rules.specs.Calls.{seriesNumber, settings};
-ghost use Rattle.series.specs.Demand.{packedAnswer, Given, Demanded};
+use series::series;
+ghost use Rattle.rules.specs.Levels.{wardOrder};
+ghost use Rattle.rules.specs.Calls.{seriesNumber, toleranceSettings};
+ghost use Rattle.series_twice.specs.Demand.{packedAnswer, Given, Demanded};
 
 // Aligns two series of the same sizes and settings in the same work memory; the answer is the
 // second's. No board needs it: its contract is what demand 3 says of every pair of such calls, proved
 // from the call's own contract and the theorem of `reexposure`.
-pub fn both(
+pub fn align_twice(
     w: usize,
     h: usize,
     s: u32,
@@ -25,7 +26,15 @@ pub fn both(
     grey: &mut [u8],
     words: &mut [u64],
 ) -> Written
-    ensures { λ answer. ⌜ (Given (settings w h s tolerance n r (now (percentiles .entry))) (now (rasters1 .entry)) (now (rasters2 .entry)) (seriesNumber w h s tolerance n r (now (percentiles .entry)) (now (rasters1 .entry)) (now (offsets1 .entry)) (now (counts1 .entry)) (now (grey .entry)) (now (words .entry))) (now (offsets1 .entry)) (now (offsets2 .entry)) (now (counts1 .entry)) (now (counts2 .entry)) → Demanded (settings w h s tolerance n r (now (percentiles .entry))) (now (rasters2 .entry)) answer (packedAnswer (settings w h s tolerance n r (now (percentiles .entry))) (now (offsets1 .exit)) (now (counts1 .exit))) (packedAnswer (settings w h s tolerance n r (now (percentiles .entry))) (now (offsets2 .exit)) (now (counts2 .exit)))) ⌝ }
+    ensures { λ answer. ⌜
+        (Given (toleranceSettings w h s tolerance n r (now (percentiles .entry))) (now (rasters1 .entry)) (now (rasters2 .entry))
+        (seriesNumber (toleranceSettings w h s tolerance n r (now (percentiles .entry))) (now (rasters1 .entry))
+        (now (offsets1 .entry)) (now (counts1 .entry)) (now (grey .entry)) (now (words .entry)))
+        (now (offsets1 .entry)) (now (offsets2 .entry)) (now (counts1 .entry)) (now (counts2 .entry))
+        → Demanded wardOrder (toleranceSettings w h s tolerance n r (now (percentiles .entry))) (now (rasters2 .entry)) answer
+        (packedAnswer (toleranceSettings w h s tolerance n r (now (percentiles .entry))) (now (offsets1 .exit)) (now (counts1 .exit)))
+        (packedAnswer (toleranceSettings w h s tolerance n r (now (percentiles .entry))) (now (offsets2 .exit)) (now (counts2 .exit))))
+        ⌝ }
 {
     series(
         w,

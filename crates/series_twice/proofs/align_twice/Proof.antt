@@ -1,10 +1,11 @@
 -- Demand 3, from what the two calls ensure. The rasters hold bytes, and the first call leaves the work memory's lengths.
 use native.Mathlib.Omega.{arith}
-use lib.ListN.{length}
 use borrow.Author.Needs.{needs}
-use Rattle.series.proofs.DemandLaws.{demanded}
-use Rattle.series.proofs.twice.both.Statement.{statement}
-use Rattle.series.proofs.twice.both.Tie as tie
+use Rattle.rules.specs.Calls.{toleranceSettings}
+use Rattle.candidates.proofs.WardLaws.{ward-arrangement}
+use Rattle.series_twice.proofs.DemandLaws.{demanded}
+use Rattle.series_twice.proofs.align_twice.Statement.{statement}
+use Rattle.series_twice.proofs.align_twice.Tie as tie
 
 series-requires : tie.Need-series-requires
 series-requires c κs = search needs
@@ -35,17 +36,16 @@ returns c =
     let a = c .before .before .before .before .before .before .before .before .before .before .before .before .before .before .before .before .before .before .before .before .before .before .before .before .before .before .before .before .before .before .before .args in
     let one = c .before .before .before .before .before .before .before .before .before .before .before .before .before .before .before .before .before .before .before .series in
     let two = c .before .before .before .before .before .before .before .series2 in
-    demanded (a .w) (a .h) (a .s) (a .tolerance) (a .n) (a .r) (a .percentiles .now) (a .rasters1 .now) (a .rasters2 .now)
-    (a .offsets1 .now) (a .offsets2 .now) (one .last .1 .1 .1 .1 .1 .1 .1 .1 .0) (two .last .1 .1 .1 .1 .1 .1 .1 .1 .0)
-    (a .counts1 .now) (a .counts2 .now) (one .last .1 .1 .1 .1 .1 .1 .1 .1 .1 .0) (two .last .1 .1 .1 .1 .1 .1 .1 .1 .1 .0)
-    (length (a .grey .now)) (length (a .words .now)) (length (one .last .1 .1 .1 .1 .1 .1 .1 .1 .1 .1 .0)) (length (one .last .1 .1 .1 .1 .1 .1 .1 .1 .1 .1 .1 .0))
-    (two .result) (one .kept .1 .1 .1 .1 .1 .1 .1 .1 .1 .1 .0) (one .kept .1 .1 .1 .1 .1 .1 .1 .1 .1 .1 .1 .0)
+    demanded _ ward-arrangement (toleranceSettings (a .w) (a .h) (a .s) (a .tolerance) (a .n) (a .r) (a .percentiles .now)) (a .rasters1 .now) (a .rasters2 .now)
+    (a .offsets1 .now) (a .offsets2 .now) (one .last .1 .1 .1 .1 .1 .1 .1 .1 .0) (two .last .1 .1 .1 .1 .1 .1 .1 .1 .0) (a .counts1 .now) (a .counts2 .now) (one .last .1 .1 .1 .1 .1 .1 .1 .1 .1 .0) (two .last .1 .1 .1 .1 .1 .1 .1 .1 .1 .0)
+    (a .grey .now) (one .last .1 .1 .1 .1 .1 .1 .1 .1 .1 .1 .0) (one .last .1 .1 .1 .1 .1 .1 .1 .1 .1 .1 .0) (two .last .1 .1 .1 .1 .1 .1 .1 .1 .1 .1 .0) (a .words .now) (one .last .1 .1 .1 .1 .1 .1 .1 .1 .1 .1 .1 .0) (one .last .1 .1 .1 .1 .1 .1 .1 .1 .1 .1 .1 .0) (two .last .1 .1 .1 .1 .1 .1 .1 .1 .1 .1 .1 .0)
+    (one .result) (two .result) (one .kept .1 .1 .1 .1 .1 .1 .1 .1 .1 .1 .0) (one .kept .1 .1 .1 .1 .1 .1 .1 .1 .1 .1 .1 .0)
     (λ i. let l = c .before .before .before .before .before .before .before .before .before .before .before .before .before .before .before .before .before .before .before .before .before .before .before .before .before .before .before .before .before .shared-slice-known2 .given i in omega arith)
     (λ i. let l = c .before .before .before .before .before .before .before .before .before .before .before .before .before .before .before .before .before .before .before .before .before .before .before .before .before .before .before .before .shared-slice-known3 .given i in omega arith)
-    (one .ensures .1 .0) (one .ensures .1 .1 .0) (two .ensures .0) (two .ensures .1 .0) (two .ensures .1 .1 .0)
+    (one .ensures) (two .ensures)
 
-pub both-spec : {M : Type 1} → statement M
-both-spec =
+pub align-twice-spec : {M : Type 1} → statement M
+align-twice-spec =
     tie.close
     (tie.spec
     series-requires

@@ -1,0 +1,2 @@
+-- Demand 3 of what the call writes.
+pub mod DemandLaws
