@@ -19,11 +19,15 @@ use Rattle.shift.proofs.rows.shift_bitmap.Tie as tie
 sized : (w h n bitmap out : ℕ) → n ≡ rowWords w → ShiftOk w h bitmap out → Sized h n bitmap out
 sized w h n bitmap out e k = rw e (record { height = k .size .height; source = omega arith; room = k .room })
 
+-- the horizontal move, counted from the bias
+right : (c : tie.After-biased) → c .biased .result ≡ biasOf (c .before .before .before .args .dx)
+right c = c .biased .ensures ∙ ap biasOf (toZ-ofZ (c .before .before .before .fits .dx))
+
 biased-requires : tie.Need-biased-requires
 biased-requires c κs = search needs
 
 move-by-requires : tie.Need-move-by-requires
-move-by-requires c κs = (c .before .before .before .pre .size .width, rw (c .biased .ensures) (bias-lt _ (search needs)))
+move-by-requires c κs = let s = c .before .before .before in (s .pre .size .width, rw (right c) (bias-lt (s .args .dx) (s .fits .dx)))
 
 biased-requires-2 : tie.Need-biased-requires-2
 biased-requires-2 c κs = search needs
@@ -45,9 +49,8 @@ returns c =
     let rows = c .before .before .place-rows in
     let down = c .before .before .before .biased2 in
     let m = c .before .before .before .before .before .move-by in
-    let right = c .before .before .before .before .before .before .biased in
     shifted-written (now (a .bitmap)) (a .w) (a .h) (a .dx) (a .dy) (s .fits .dx) (s .fits .dy) (m .result) (m .ensures .1 .1) (m .ensures .0)
-    (m .ensures .1 .0 ∙ right .ensures ∙ ap biasOf (toZ-ofZ (s .fits .dx))) (down .result) (now (a .out)) (rows .last .1 .0)
+    (m .ensures .1 .0 ∙ right (c .before .before .before .before .before .before)) (down .result) (now (a .out)) (rows .last .1 .0)
     (down .ensures ∙ ap biasOf (toZ-ofZ (s .fits .dy))) (s .pre .room) (rows .ensures)
 
 pub shift-bitmap-spec : {M : Type 1} → statement M
