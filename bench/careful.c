@@ -255,6 +255,13 @@ STEP uint32_t count_at(struct planes first, struct planes second, struct size z,
     return count;
 }
 
+uint32_t careful_difference(uint32_t w, uint32_t h, int32_t dx, int32_t dy, uint64_t *threshold1, uint64_t *exclusion1,
+                            uint64_t *threshold2, uint64_t *exclusion2)
+{
+    struct planes first = {threshold1, exclusion1}, second = {threshold2, exclusion2};
+    return count_at(first, second, size_of(w, h), (struct offset){dx, dy});
+}
+
 /* The nine counts around a centre, and the first least. */
 static struct offset choose(struct planes first, struct planes second, struct size z, struct offset centre,
                             uint32_t counts[CANDIDATES])

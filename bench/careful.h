@@ -16,4 +16,8 @@ void careful_series(uint32_t w, uint32_t h, uint32_t s, uint32_t tolerance, uint
                     const uint32_t *percentiles, const uint8_t *rasters, int32_t *offsets, uint32_t *counts,
                     uint8_t *grey, uint64_t *words);
 
+/* The difference count of two frames' bitmaps, whose bits past w are 0, at a move by less than w and h. */
+uint32_t careful_difference(uint32_t w, uint32_t h, int32_t dx, int32_t dy, uint64_t *threshold1, uint64_t *exclusion1,
+                            uint64_t *threshold2, uint64_t *exclusion2);
+
 #endif

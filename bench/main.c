@@ -8,38 +8,20 @@
  *
  * Results go to standard output, as words with tabs between.
  */
-#define _POSIX_C_SOURCE 200809L
-
 #include <limits.h>
 #include <malloc.h>
 #include <stdio.h>
 #include <stdlib.h>
 #include <string.h>
-#include <time.h>
 
 #include "contest.h"
 #include "scene.h"
+#include "timing.h"
 
-enum { SEED = 2024, TOLERANCE = 4, PERCENTILE = 50, ALIGNMENT = 64, MAX_TURNS = 101, LEAST_TURNS = 15, MAX_CONTESTANTS = 4 };
+enum { SEED = 2024, TOLERANCE = 4, PERCENTILE = 50, LEAST_TURNS = 15, MAX_CONTESTANTS = 4 };
 
 /* What a timed job shows: the made scene, or random bytes, in which no word of a bitmap is empty. */
 enum content { SCENE, NOISE };
-
-static void fail(const char *why)
-{
-    fprintf(stderr, "contest: %s\n", why);
-    exit(1);
-}
-
-/* Memory that has been written once, so that no page is missing when the clock runs. */
-static void *touched(size_t bytes)
-{
-    void *p = aligned_alloc(ALIGNMENT, (bytes + ALIGNMENT) / ALIGNMENT * ALIGNMENT);
-    if (p == NULL)
-        fail("no memory");
-    memset(p, 1, bytes);
-    return p;
-}
 
 static size_t raster_bytes(const struct job *j) { return (size_t)3 * j->w * j->h; }
 
@@ -149,19 +131,6 @@ static void agree(uint32_t jobs)
 
 /* ---- time ---- */
 
-static uint64_t cpu_ns(void)
-{
-    struct timespec t;
-    clock_gettime(CLOCK_PROCESS_CPUTIME_ID, &t);
-    return (uint64_t)t.tv_sec * 1000000000u + (uint64_t)t.tv_nsec;
-}
-
-static int ascending(const void *a, const void *b)
-{
-    uint64_t x = *(const uint64_t *)a, y = *(const uint64_t *)b;
-    return (x > y) - (x < y);
-}
-
 /* Fewer turns for large frames; an odd number, so that the median is one of them. */
 static uint32_t turns_for(const struct job *j)
 {
@@ -179,34 +148,15 @@ static void keep_memory(void)
         fail("mallopt");
 }
 
-static int ascending_ratios(const void *a, const void *b)
-{
-    double x = *(const double *)a, y = *(const double *)b;
-    return (x > y) - (x < y);
-}
-
-/* How many times the time of the first contestant, the library, another one took: the median over the turns. Both ran within one turn, so that a host
- * that is slower for a second is slower for both. */
-static double median_ratio(const uint64_t *times, const uint64_t *library, uint32_t turns)
-{
-    double ratios[MAX_TURNS];
-    for (uint32_t k = 0; k < turns; k++)
-        ratios[k] = (double)times[k] / (double)library[k];
-    qsort(ratios, turns, sizeof ratios[0], ascending_ratios);
-    return ratios[turns / 2];
-}
-
 /* A line each contestant: the job, the name, median and least time, turns, the last frame's offset, the true one, and
  * how many times the library's time it took. */
 static void print_line(const char *kind, const struct job *j, enum content content, const struct contestant *c,
                        const uint64_t *times, const uint64_t *library, uint32_t turns, const struct answer *a)
 {
     struct slide first = scene_slide(0), last = scene_slide(j->n - 1);
-    uint64_t sorted[MAX_TURNS];
-    memcpy(sorted, times, turns * sizeof times[0]);
-    qsort(sorted, turns, sizeof sorted[0], ascending);
+    struct spread t = spread_of(times, turns);
     printf("%s\t%s\t%u\t%u\t%u\t%u\t%s\t", kind, content == SCENE ? "scene" : "noise", j->w, j->h, j->n, j->s, c->name);
-    printf("%llu\t%llu\t%u\t", (unsigned long long)sorted[turns / 2], (unsigned long long)sorted[0], turns);
+    printf("%llu\t%llu\t%u\t", (unsigned long long)t.median, (unsigned long long)t.least, turns);
     printf("%d\t%d\t", a->offsets[2 * j->n - 2], a->offsets[2 * j->n - 1]);
     printf("%d\t%d\t%.4f\n", first.x - last.x, first.y - last.y, median_ratio(times, library, turns));
     fflush(stdout);

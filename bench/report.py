@@ -1,7 +1,7 @@
 #!/usr/bin/env python3
 """Writes docs/BENCHMARK.md and docs/benchmark.svg from what bench/run measured, and prints the ratios.
 
-usage: report.py MEASURED DOCS     (MEASURED has results.tsv and the profiles callgrind.NAME.txt)
+usage: report.py MEASURED DOCS     (MEASURED has results.tsv and the profiles callgrind.PROGRAM.NAME.txt)
 """
 import math
 import os
@@ -16,6 +16,7 @@ NAMES = (LIBRARY, CAREFUL, OPENCV, MEMCPY)
 ASKED = ((640, 480), (1920, 1080), (4096, 4096))  # the sizes that the order names
 LARGE = 1920 * 1080  # goals against OpenCV and memcpy hold from here on
 COUNTED = 640 * 480  # pixels of the frames whose instructions are counted
+WINDOW = 65 * 65  # moves of the window of single difference calls
 
 # A function of a profile belongs to the first step whose pattern its name has.
 STEPS = (
@@ -23,26 +24,27 @@ STEPS = (
     ("halving", r"halv"),
     ("histogram and threshold", r"threshold_of|histogram|percentile_of|count_fours|bitmaps_within"),
     ("bitmaps", r"pack"),
-    ("difference counts", r"count_at|ones|settle|counts|column|difference|overlap|slid|moved_word"),
+    ("difference counts", r"count|ones|settle|column|difference|overlap|slid|moved_word"),
     ("other", r""),
 )
 
 Job = namedtuple("Job", "content w h n s")
 # milliseconds; the last frame's offset, found and true; how many times the library's time, the median over the turns
 Time = namedtuple("Time", "median least turns offset true to_library")
+# all moves of the window: milliseconds, and how many times the library's time
+Calls = namedtuple("Calls", "median least to_library")
 
 
 class Results:
     """What was measured: times[job][name] with freed memory kept, default[job][name] with the C library's own ways,
-    facts, agreement, and the profiles."""
+    window[name] of single difference calls, facts, agreement, and the profiles of a pair and of a window."""
 
     def __init__(self, folder):
-        self.times, self.default, self.facts, self.agreed = {}, {}, {}, (0, 0)
+        self.times, self.default, self.window, self.facts, self.agreed = {}, {}, {}, {}, (0, 0)
         with open(os.path.join(folder, "results.tsv")) as lines:
             for line in lines:
                 self.take(line.rstrip("\n").split("\t"))
-        files = {name: f"callgrind.{name.replace(' ', '')}.txt" for name in NAMES}
-        self.profiles = {name: profile(os.path.join(folder, file)) for name, file in files.items()}
+        self.profiles, self.window_profiles = profiles(folder, "contest"), profiles(folder, "window")
 
     def take(self, words):
         kind = words[0]
@@ -50,6 +52,8 @@ class Results:
             self.facts[words[1]] = words[2]
         elif kind == "agree":
             self.agreed = (int(words[1]), int(words[2]))
+        elif kind == "window":
+            self.window[words[1]] = Calls(int(words[2]) / 1e6, int(words[3]) / 1e6, float(words[4]))
         elif kind in ("time", "default"):
             w, h, n, s = map(int, words[2:6])
             median, least = (int(v) / 1e6 for v in words[7:9])
@@ -92,6 +96,12 @@ def profile(path):
                 if m and m.group(2) != "PROGRAM TOTALS":
                     counts[m.group(2)] = counts.get(m.group(2), 0) + int(m.group(1).replace(",", ""))
     return counts
+
+
+def profiles(folder, program):
+    """Instructions by contestant and function."""
+    files = {name: f"callgrind.{program}.{name.replace(' ', '')}.txt" for name in NAMES}
+    return {name: profile(os.path.join(folder, file)) for name, file in files.items()}
 
 
 def step_of(function):
@@ -178,6 +188,16 @@ def instruction_table(results):
         total = sum(results.profiles[OPENCV].values()) / COUNTED
         text += f"\n\nOpenCV: {total:.1f} (valgrind shows it a processor without AVX-512)."
     return text
+
+
+def window_table(results):
+    rows = []
+    for name, calls in results.window.items():
+        counted = sum(results.window_profiles[name].values()) / (WINDOW * COUNTED)
+        rows.append([name, milliseconds(calls.median), milliseconds(calls.least), f"{calls.median * 1e3 / WINDOW:.1f}",
+                     f"{1 / calls.to_library:.2f}", f"{counted:.2f}" if counted else "–"])
+    head = ["640×480, 65×65 moves", "median, ms", "fastest, ms", "a call, µs", "library / this", "instructions a pixel"]
+    return table(head, rows)
 
 
 def default_table(results):
@@ -292,6 +312,7 @@ def document(results):
         "pairs": pair_table(results),
         "series": series_table(results),
         "default": default_table(results),
+        "window": window_table(results),
         "s": s_table(results),
         "instructions": instruction_table(results),
         "machine": machine(results),
@@ -317,7 +338,7 @@ def main():
         f.write(document(results))
     with open(os.path.join(docs, "benchmark.svg"), "w") as f:
         f.write(picture(results))
-    for text in (pair_table(results), default_table(results), series_table(results)):
+    for text in (pair_table(results), default_table(results), series_table(results), window_table(results)):
         print(text + "\n")
     for goal in goals(results):
         print(f"{goal.met}: {goal.text}: {goal.measured}")

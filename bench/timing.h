@@ -1,0 +1,30 @@
+/* What both programs of the benchmark use to take times. */
+#ifndef TIMING_H
+#define TIMING_H
+
+#include <stddef.h>
+#include <stdint.h>
+
+enum { MAX_TURNS = 101 };
+
+/* Ends the program. */
+_Noreturn void fail(const char *why);
+
+/* Memory that has been written once, so that no page is missing when the clock runs. */
+void *touched(size_t bytes);
+
+/* The CPU time of the process. */
+uint64_t cpu_ns(void);
+
+/* Of the times of some turns. */
+struct spread {
+    uint64_t median, least;
+};
+
+struct spread spread_of(const uint64_t *times, uint32_t turns);
+
+/* How many times the library's time another contestant took: the median over the turns. Both ran within one turn,
+ * so that a host that is slower for a second is slower for both. */
+double median_ratio(const uint64_t *times, const uint64_t *library, uint32_t turns);
+
+#endif
