@@ -302,7 +302,7 @@ def offsets_line(results):
 
 
 def document(results):
-    with open(os.path.join(os.path.dirname(__file__), "BENCHMARK.in.md")) as f:
+    with open(os.path.join(os.path.dirname(__file__), "BENCHMARK.template.md")) as f:
         text = f.read()
     jobs, pairs = results.agreed
     few, many = turns(results)
