@@ -23,7 +23,7 @@ use vectors::tally;
 const DATA_MEMORY: usize = 300000;
 
 // Whether n bytes of text were written and nothing after them.
-fn text_is(n: usize, out: &[u8], data: &[u8], at: usize) -> bool {
+fn text_is(n: usize, out: &[u8; OUTPUT_LENT], data: &[u8], at: usize) -> bool {
     n == size(data, at, OUTPUT1)
         && same_bytes(part(out, 0, n), part(output_on(data, at, OUTPUT1), 0, n))
         && bytes_are(out, data, at, OUTPUT2)
