@@ -23,9 +23,12 @@ void make_noise(uint64_t seed)
         ties[i] %= 4;
     for (int i = 0; i < NOISE_WORDS; i++)
         noise_words[i] = random_bits();
+}
+
+void keep_noise(void)
+{
     keep_bytes(noise, sizeof noise);
     keep_bytes(ties, sizeof ties);
-    keep_bytes(noise_words, sizeof noise_words);
 }
 
 uint32_t one_of(const uint32_t *numbers, int count)

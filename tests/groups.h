@@ -1,4 +1,4 @@
-/* The groups of test vectors, a function a data file, and what they share. */
+/* The groups of test vectors, and what they share. */
 #ifndef GROUPS_H
 #define GROUPS_H
 
@@ -8,12 +8,10 @@
 #define COUNT_OF(array) ((int)(sizeof(array) / sizeof((array)[0])))
 
 /* Each adds its groups to the file in the making. */
-void example_groups(void);
 void frame_groups(uint64_t seed);
 void bitmap_groups(uint64_t seed);
 void pair_groups(uint64_t seed);
 void series_groups(uint64_t seed);
-void made_groups(void);
 void p6_groups(uint64_t seed);
 void view_groups(uint64_t seed);
 void bracket_groups(uint64_t seed);
@@ -23,6 +21,11 @@ enum { NOISE_BYTES = 16384, NOISE_WORDS = 1024 };
 extern uint8_t noise[NOISE_BYTES], ties[NOISE_BYTES];
 extern uint64_t noise_words[NOISE_WORDS];
 void make_noise(uint64_t seed);
+/* Puts the bytes among them into the file's pool, for records that take parts anywhere. */
+void keep_noise(void);
+
+/* The name of a group in several files. */
+#define EXAMPLES "document 01: worked examples that are not proved"
 
 /* A way to make a refusal number apply: to sizes and settings, or, after these have given the lengths, to slices. */
 struct breaker {

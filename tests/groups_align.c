@@ -180,16 +180,6 @@ static void pair_re_exposed(void)
         }
 }
 
-void pair_groups(uint64_t seed)
-{
-    random_begin(seed, "pairs");
-    pair_sizes();
-    pair_settings();
-    pair_lengths();
-    pair_refusals();
-    pair_re_exposed();
-}
-
 /* ---- Series ---- */
 
 static struct vector series_vector(uint32_t w, uint32_t h, uint32_t s, uint32_t n, uint32_t r, const uint32_t *percentiles,
@@ -296,14 +286,6 @@ static void series_re_exposed(void)
         }
 }
 
-void series_groups(uint64_t seed)
-{
-    random_begin(seed, "series");
-    series_frames();
-    series_refusals();
-    series_re_exposed();
-}
-
 /* ---- Made frames ---- */
 
 /* A pair of overlapping parts of the made bytes: the second begins dy rows and dx pixels later. */
@@ -366,12 +348,6 @@ static void made_series(void)
     add_made_series(513, 512, 7, 3, 2, 0);
 }
 
-void made_groups(void)
-{
-    made_pairs();
-    made_series();
-}
-
 /* ---- Document 01's worked examples ---- */
 
 static void flat_example(void)
@@ -414,36 +390,46 @@ static void one_frame_example(void)
     add(&v);
 }
 
-/* "Shift by w or more, or by the lowest signed number: all 0." */
-static void shift_example(int32_t dx, int32_t dy)
+static void pair_examples(void)
 {
-    static const uint64_t zero[6];
-    struct vector v = { .call = CALL_SHIFT, .w = 70, .h = 3, .dx = dx, .dy = dy, .in = { { noise_words, 0 } } };
-    fit_lengths(&v);
-    struct answer a = answer_of(&v);
-    must(a.refusal == 0 && memcmp(a.out[0], zero, sizeof zero) == 0, "shift by w or more: all 0");
-    free_answer(a);
-    add(&v);
-}
-
-void example_groups(void)
-{
-    begin_group("document 01: worked examples that are not proved");
+    begin_group(EXAMPLES);
     flat_example();
     expect_pair(16, 16, 0, 0);
     expect_pair(15, 16, 0, 4);
     expect_pair(16, 15, 0, 4);
     expect_pair(15, 15, 0, 4);
+    expect_pair(16, 16, 64, 0);
+    expect_pair(16, 16, 65, 5);
+}
+
+static void series_examples(void)
+{
+    begin_group(EXAMPLES);
     one_frame_example();
     expect_series(16, 0);
     expect_series(17, 6);
-    expect_pair(16, 16, 64, 0);
-    expect_pair(16, 16, 65, 5);
-    shift_example(70, 0);
-    shift_example(-70, 0);
-    shift_example(71, 1);
-    shift_example(INT32_MAX, 0);
-    shift_example(INT32_MIN, 0);
-    shift_example(0, INT32_MIN);
-    shift_example(0, 3);
+}
+
+/* ---- The files ---- */
+
+void pair_groups(uint64_t seed)
+{
+    random_begin(seed, "pairs");
+    pair_examples();
+    pair_sizes();
+    pair_settings();
+    pair_lengths();
+    pair_refusals();
+    pair_re_exposed();
+    made_pairs();
+}
+
+void series_groups(uint64_t seed)
+{
+    random_begin(seed, "series");
+    series_examples();
+    series_frames();
+    series_refusals();
+    series_re_exposed();
+    made_series();
 }

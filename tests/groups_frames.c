@@ -1,6 +1,8 @@
 /* Grey conversion, halving, threshold; bitmaps, shift, total, difference. */
 #include "groups.h"
 
+#include <string.h>
+
 static const uint32_t widths[] = { 1, 2, 3, 31, 63, 64, 65, 100, 127, 128, 129, 191, 192, 193 };
 static const uint32_t move_widths[] = { 1, 5, 63, 64, 65, 127, 128, 130, 200 };
 static const uint32_t percentiles[] = { 17, 50, 83 };
@@ -142,6 +144,7 @@ static void threshold_groups(void)
 void frame_groups(uint64_t seed)
 {
     random_begin(seed, "frames");
+    keep_noise();
     grey_groups();
     halve_groups();
     threshold_groups();
@@ -262,9 +265,38 @@ static void difference_groups(void)
     add_subsets(difference_vector(67, 3, 2, 1), breakers, COUNT_OF(breakers), 16);
 }
 
+/* ---- Document 01's worked examples ---- */
+
+/* "Shift by w or more, or by the lowest signed number: all 0." */
+static void shift_example(int32_t dx, int32_t dy)
+{
+    static const uint64_t zero[6];
+    struct vector v = { .call = CALL_SHIFT, .w = 70, .h = 3, .dx = dx, .dy = dy, .in = { { noise_words, 0 } } };
+    fit_lengths(&v);
+    struct answer a = answer_of(&v);
+    must(a.refusal == 0 && memcmp(a.out[0], zero, sizeof zero) == 0, "shift by w or more: all 0");
+    free_answer(a);
+    add(&v);
+}
+
+static void shift_examples(void)
+{
+    begin_group(EXAMPLES);
+    shift_example(70, 0);
+    shift_example(-70, 0);
+    shift_example(71, 1);
+    shift_example(INT32_MAX, 0);
+    shift_example(INT32_MIN, 0);
+    shift_example(0, INT32_MIN);
+    shift_example(0, 3);
+}
+
 void bitmap_groups(uint64_t seed)
 {
     random_begin(seed, "bitmaps");
+    keep_noise();
+    keep_bytes(noise_words, sizeof noise_words);
+    shift_examples();
     pack_groups();
     shift_groups();
     total_groups();

@@ -98,7 +98,7 @@ static size_t element_bytes(const struct vector *v, int input)
     return words ? 8 : numbers ? 4 : 1;
 }
 
-/* The made bytes hold the rasters: both inputs of a pair, the second of a series. */
+/* The made bytes hold the rasters: both inputs of a pair, the second of a series. Their places count from the first made byte. */
 static bool is_made(const struct vector *v, int input)
 {
     return v->call == CALL_MADE_PAIR ? input < 2 : v->call == CALL_MADE_SERIES && input == 1;
@@ -187,12 +187,6 @@ uint32_t add(const struct vector *v)
 
 /* ---- Files ---- */
 
-void begin_file(void)
-{
-    group_count = record_count = 0;
-    pool_length = 0;
-}
-
 void begin_group(const char *name)
 {
     if (group_count == MAX_GROUPS)
@@ -210,10 +204,19 @@ static void write_numbers(FILE *file, const uint32_t *numbers, size_t count)
     }
 }
 
-void end_file(const char *directory, const char *name)
+/* Made bytes follow the pool: only now is it known where. */
+static void place_made(uint32_t *record)
+{
+    struct vector v = { .call = record[FIELD_CALL] };
+    for (int i = 0; i < inputs_of(v.call); i++)
+        if (is_made(&v, i))
+            record[FIELD_INPUT + 2 * i] += (uint32_t)pool_length;
+}
+
+void end_file(const char *crates, const char *program)
 {
     char path[1024];
-    snprintf(path, sizeof path, "%s/%s", directory, name);
+    snprintf(path, sizeof path, "%s/%s/data/vectors.bin", crates, program);
     FILE *file = fopen(path, "wb");
     if (!file)
         fail(path);
@@ -223,10 +226,14 @@ void end_file(const char *directory, const char *name)
     write_numbers(file, header, 4);
     for (uint32_t g = 0; g < group_count; g++)
         write_numbers(file, &groups[g].name, 4);
-    for (uint32_t r = 0; r < record_count; r++)
+    for (uint32_t r = 0; r < record_count; r++) {
+        place_made(records[r]);
         write_numbers(file, records[r], FIELDS);
+    }
     fwrite(pool, 1, pool_length, file);
     if (fclose(file) != 0)
         fail(path);
-    printf("%-10s %2u groups %5u records %8u bytes\n", name, group_count, record_count, header[3]);
+    printf("%-16s %2u groups %5u records %8u bytes\n", program, group_count, record_count, header[3]);
+    group_count = record_count = 0;
+    pool_length = 0;
 }

@@ -83,12 +83,12 @@ struct answer answer_of(const struct vector *vector);
 void free_answer(struct answer answer);
 
 /* A file in the making: groups of records, one after another. */
-void begin_file(void);
 void begin_group(const char *name);
 /* Adds a record with the reference's answer, and gives the refusal number. */
 uint32_t add(const struct vector *vector);
 /* Puts bytes into the pool beforehand, so that records share parts of them. */
 void keep_bytes(const void *bytes, size_t count);
-void end_file(const char *directory, const char *name);
+/* Writes them as the data of a program, and begins the next file. */
+void end_file(const char *crates, const char *program);
 
 #endif

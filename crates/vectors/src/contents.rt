@@ -1,9 +1,12 @@
 // Comparison of lent buffers with their expected contents: in full, or by a digest.
 
+use crate::data::GREY;
+use crate::data::WORDS;
 use crate::data::number_of;
+use crate::data::output_on;
 use crate::data::part;
-use crate::data::pool;
 use crate::data::signed;
+use crate::data::size;
 use crate::data::word_at;
 use crate::data::word_of;
 
@@ -11,9 +14,6 @@ use crate::data::word_of;
 const FULL_BYTES: usize = 256;
 
 const FULL_WORDS: usize = 32;
-
-// More offsets or counts than any record has.
-const MOST_NUMBERS: usize = 65536;
 
 const DIGEST_BASIS: u64 = 0xCBF29CE484222325;
 
@@ -113,33 +113,43 @@ fn same_offsets(offsets: &[i32], bytes: &[u8]) -> bool {
     true
 }
 
-// Whether a buffer holds what stands at a place of the pool.
-pub fn bytes_are(buffer: &[u8], data: &[u8], at: usize) -> bool {
+// Whether a buffer is output k of the record: its length, and what it holds.
+pub fn bytes_are(buffer: &[u8], data: &[u8], at: usize, k: usize) -> bool {
+    if buffer.len() != size(data, at, k) {
+        return false;
+    }
+    let contents = output_on(data, at, k);
     if FULL_BYTES < buffer.len() {
-        return byte_digest(buffer) == word_at(pool(data), at);
+        return byte_digest(buffer) == word_at(contents, 0);
     }
-    same_bytes(buffer, part(pool(data), at, buffer.len()))
+    same_bytes(buffer, part(contents, 0, buffer.len()))
 }
 
-pub fn words_are(buffer: &[u64], data: &[u8], at: usize) -> bool {
+pub fn words_are(buffer: &[u64], data: &[u8], at: usize, k: usize) -> bool {
+    if buffer.len() != size(data, at, k) {
+        return false;
+    }
+    let contents = output_on(data, at, k);
     if FULL_WORDS < buffer.len() {
-        return word_digest(buffer) == word_at(pool(data), at);
+        return word_digest(buffer) == word_at(contents, 0);
     }
-    same_words(buffer, part(pool(data), at, 8 * buffer.len()))
+    same_words(buffer, contents)
 }
 
-pub fn counts_are(buffer: &[u32], data: &[u8], at: usize) -> bool {
-    if MOST_NUMBERS < buffer.len() {
-        return false;
-    }
-    same_counts(buffer, part(pool(data), at, 4 * buffer.len()))
+pub fn counts_are(buffer: &[u32], data: &[u8], at: usize, k: usize) -> bool {
+    buffer.len() == size(data, at, k) && same_counts(buffer, output_on(data, at, k))
 }
 
-pub fn offsets_are(buffer: &[i32], data: &[u8], at: usize) -> bool {
-    if MOST_NUMBERS < buffer.len() {
-        return false;
+pub fn offsets_are(buffer: &[i32], data: &[u8], at: usize, k: usize) -> bool {
+    buffer.len() == size(data, at, k) && same_offsets(buffer, output_on(data, at, k))
+}
+
+// A call that aligns and refuses leaves the work memory as it was; n is its number.
+pub fn memory_kept(n: u32, data: &[u8], at: usize, grey: &[u8], words: &[u64]) -> bool {
+    if n == 0 {
+        return true;
     }
-    same_offsets(buffer, part(pool(data), at, 4 * buffer.len()))
+    bytes_are(grey, data, at, GREY) && words_are(words, data, at, WORDS)
 }
 
 // Whether a part that was handed back is the one from `start` on, of this length.

@@ -1,8 +1,20 @@
 // Numbers and parts of a data file (tests/FORMAT.md). Nothing here requires anything: past the end a
 // number is 0, and a part that does not fit is empty.
 
-// Where the header has the pool's beginning.
+// Numbers of the header.
+const GROUPS: usize = 4;
+
+const RECORDS: usize = 8;
+
 const POOL: usize = 12;
+
+pub const FILE_LENGTH: usize = 16;
+
+const HEADER_BYTES: usize = 20;
+
+const GROUP_BYTES: usize = 16;
+
+const RECORD_BYTES: usize = 128;
 
 // Numbers of a record.
 pub const CALL: usize = 0;
@@ -51,6 +63,11 @@ pub const VALUE2: usize = 28;
 pub const VALUE3: usize = 29;
 
 pub const VALUE4: usize = 30;
+
+// Made frames: how many bytes, and the rows of a frame.
+pub const MADE: usize = 29;
+
+pub const MADE_ROWS: usize = 30;
 
 pub const SCENE: usize = 31;
 
@@ -119,6 +136,7 @@ pub fn part(bytes: &[u8], from: usize, length: usize) -> &[u8] {
     &bytes[0..0]
 }
 
+// The pool, and what stands after it.
 pub fn pool(data: &[u8]) -> &[u8] {
     let begin = number_at(data, POOL) as usize;
     if data.len() < begin {
@@ -150,21 +168,51 @@ pub fn second(data: &[u8], at: usize, k: usize) -> usize {
     size(data, at, k + 1)
 }
 
-// An input of the record, as a part of the bytes that its place counts in.
-pub fn input_in<'a>(source: &'a [u8], data: &[u8], at: usize, k: usize) -> &'a [u8] {
-    part(source, size(data, at, k), second(data, at, k))
-}
-
+// Input k of the record.
 pub fn input(data: &[u8], at: usize, k: usize) -> &[u8] {
     part(pool(data), size(data, at, k), second(data, at, k))
 }
 
-// The pool from an input's place on.
-pub fn input_on(data: &[u8], at: usize, k: usize) -> &[u8] {
+// The pool from a place on.
+fn pool_from(data: &[u8], place: usize) -> &[u8] {
     let bytes = pool(data);
-    let from = size(data, at, k);
-    if bytes.len() < from {
+    if bytes.len() < place {
         return &bytes[0..0];
     }
-    &bytes[from..]
+    &bytes[place..]
+}
+
+// The pool from an input's place on.
+pub fn input_on(data: &[u8], at: usize, k: usize) -> &[u8] {
+    pool_from(data, size(data, at, k))
+}
+
+// The pool from the place of an output's expected contents on.
+pub fn output_on(data: &[u8], at: usize, k: usize) -> &[u8] {
+    pool_from(data, second(data, at, k))
+}
+
+fn group_at(k: u32) -> usize {
+    HEADER_BYTES + GROUP_BYTES * (k as usize)
+}
+
+// The numbers of group k.
+pub fn group(data: &[u8], k: u32) -> &[u8] {
+    part(data, group_at(k), GROUP_BYTES)
+}
+
+pub fn record_count(data: &[u8]) -> u32 {
+    number_at(data, RECORDS)
+}
+
+// Where record k stands: after the groups.
+pub fn record_at(data: &[u8], k: u32) -> usize {
+    HEADER_BYTES + GROUP_BYTES * (number_at(data, GROUPS) as usize) + RECORD_BYTES * (k as usize)
+}
+
+// Reads the program's data file; where it is missing, the bytes stay as they are.
+pub fn read_vectors(data: &mut [u8]) {
+    let fd = os::open_read(b"vectors.bin");
+    io::read_full(fd, data);
+    libc::close(fd);
 }

@@ -1,0 +1,70 @@
+// Test vectors of what the program `bracket` prints.
+
+use report::GREY_LENT;
+use report::OUTPUT_LENT;
+use report::WORDS_LENT;
+use vectors::buffers::fill_bytes;
+use vectors::contents::bytes_are;
+use vectors::contents::same_bytes;
+use vectors::data::INPUT1;
+use vectors::data::INPUT2;
+use vectors::data::INPUT3;
+use vectors::data::OUTPUT1;
+use vectors::data::OUTPUT2;
+use vectors::data::input;
+use vectors::data::output_on;
+use vectors::data::part;
+use vectors::data::read_vectors;
+use vectors::data::record_at;
+use vectors::data::record_count;
+use vectors::data::size;
+use vectors::tally;
+
+const DATA_MEMORY: usize = 300000;
+
+// Whether n bytes of text were written and nothing after them.
+fn text_is(n: usize, out: &[u8; OUTPUT_LENT], data: &[u8], at: usize) -> bool {
+    n == size(data, at, OUTPUT1)
+        && same_bytes(part(out, 0, n), part(output_on(data, at, OUTPUT1), 0, n))
+        && bytes_are(out, data, at, OUTPUT2)
+}
+
+fn report_of(data: &[u8], at: usize, out: &mut [u8; OUTPUT_LENT]) -> usize {
+    let mut grey = [0u8; GREY_LENT];
+    let mut words = [0u64; WORDS_LENT];
+    let settings = input(data, at, INPUT1);
+    let first = input(data, at, INPUT2);
+    let second = input(data, at, INPUT3);
+    report::report(settings, first, second, &mut grey, &mut words, out)
+}
+
+// Whether the library agrees with the record at a place.
+fn agrees(data: &[u8], at: usize) -> bool {
+    let mut out = [0u8; OUTPUT_LENT];
+    fill_bytes(&mut out);
+    let n = report_of(data, at, &mut out);
+    text_is(n, &out, data, at)
+}
+
+fn run_records(data: &[u8]) {
+    let count = record_count(data);
+    let mut tally = tally::start();
+    let mut k: u32 = 0;
+    while k < count {
+        let same = agrees(data, record_at(data, k));
+        tally = tally::add_record(tally, data, same);
+        k += 1;
+    }
+    tally::say_all(tally);
+}
+
+// An array of this size becomes a slice only here: the prover need not look at its elements.
+fn run(data: &mut [u8; DATA_MEMORY]) {
+    read_vectors(data);
+    run_records(data);
+}
+
+fn main() {
+    let mut data = [0u8; DATA_MEMORY];
+    run(&mut data);
+}

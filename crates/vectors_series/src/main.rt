@@ -1,0 +1,171 @@
+// Test vectors of `series`: of stored and of made frames.
+
+use rules::Written;
+use vectors::answers::DIFFERS;
+use vectors::answers::written;
+use vectors::buffers::COUNT;
+use vectors::buffers::OFFSET;
+use vectors::buffers::input_numbers;
+use vectors::buffers::lend_bytes;
+use vectors::buffers::lend_counts;
+use vectors::buffers::lend_offsets;
+use vectors::buffers::lend_words;
+use vectors::contents::counts_are;
+use vectors::contents::memory_kept;
+use vectors::contents::offsets_are;
+use vectors::data::FRAMES;
+use vectors::data::GREY;
+use vectors::data::HALVINGS;
+use vectors::data::HEIGHT;
+use vectors::data::INPUT1;
+use vectors::data::INPUT2;
+use vectors::data::OUTPUT1;
+use vectors::data::OUTPUT2;
+use vectors::data::REFERENCE;
+use vectors::data::REFUSAL;
+use vectors::data::TOLERANCE;
+use vectors::data::WIDTH;
+use vectors::data::WORDS;
+use vectors::data::field;
+use vectors::data::input;
+use vectors::data::read_vectors;
+use vectors::data::record_at;
+use vectors::data::record_count;
+use vectors::data::size;
+use vectors::tally;
+use vectors_scene::make_frames;
+
+// The file, and after it the made bytes of the largest frames.
+const DATA_MEMORY: usize = 2700000;
+
+const GREY_MEMORY: usize = 710000;
+
+const WORD_MEMORY: usize = 28000;
+
+const MOST_COUNTS: usize = 2048;
+
+const MOST_OFFSETS: usize = 64;
+
+const MOST_PERCENTILES: usize = 32;
+
+// Sizes and settings of a record.
+struct Setup {
+    w: usize,
+    h: usize,
+    s: u32,
+    tolerance: u32,
+    n: usize,
+    r: usize,
+}
+
+fn setup_of(data: &[u8], at: usize) -> Setup {
+    Setup {
+        w: size(data, at, WIDTH),
+        h: size(data, at, HEIGHT),
+        s: field(data, at, HALVINGS),
+        tolerance: field(data, at, TOLERANCE),
+        n: size(data, at, FRAMES),
+        r: size(data, at, REFERENCE),
+    }
+}
+
+fn series_of(
+    data: &[u8],
+    at: usize,
+    percentiles: &[u32],
+    offsets: &mut [i32],
+    counts: &mut [u32],
+    grey: &mut [u8],
+    words: &mut [u64],
+) -> Written {
+    let set = setup_of(data, at);
+    let rasters = input(data, at, INPUT2);
+    series::series(
+        set.w,
+        set.h,
+        set.s,
+        set.tolerance,
+        set.n,
+        set.r,
+        percentiles,
+        rasters,
+        offsets,
+        counts,
+        grey,
+        words,
+    )
+}
+
+fn counted_series(
+    data: &[u8],
+    at: usize,
+    offsets: &mut [i32],
+    counts: &mut [u32],
+    grey: &mut [u8],
+    words: &mut [u64],
+) -> Written {
+    let mut room = [0u32; MOST_PERCENTILES];
+    let percentiles = input_numbers(data, at, INPUT1, &mut room);
+    series_of(data, at, percentiles, offsets, counts, grey, words)
+}
+
+fn number_with(
+    data: &[u8],
+    at: usize,
+    offsets: &mut [i32],
+    grey: &mut [u8],
+    words: &mut [u64],
+) -> u32 {
+    let mut room = [COUNT; MOST_COUNTS];
+    let counts = lend_counts(&mut room, size(data, at, OUTPUT2));
+    let answer = counted_series(data, at, offsets, counts, grey, words);
+    if counts_are(counts, data, at, OUTPUT2) {
+        return written(answer);
+    }
+    DIFFERS
+}
+
+fn series_number(data: &[u8], at: usize, grey: &mut [u8], words: &mut [u64]) -> u32 {
+    let mut room = [OFFSET; MOST_OFFSETS];
+    let offsets = lend_offsets(&mut room, size(data, at, OUTPUT1));
+    let n = number_with(data, at, offsets, grey, words);
+    if offsets_are(offsets, data, at, OUTPUT1) {
+        return n;
+    }
+    DIFFERS
+}
+
+// Whether the library agrees with the record at a place.
+fn agrees(data: &[u8], at: usize, grey: &mut [u8], words: &mut [u64]) -> bool {
+    let lent_grey = lend_bytes(grey, size(data, at, GREY));
+    let lent_words = lend_words(words, size(data, at, WORDS));
+    let n = series_number(data, at, lent_grey, lent_words);
+    n == field(data, at, REFUSAL) && memory_kept(n, data, at, lent_grey, lent_words)
+}
+
+fn run_records(data: &mut [u8], grey: &mut [u8], words: &mut [u64]) {
+    let count = record_count(data);
+    let mut tally = tally::start();
+    let mut k: u32 = 0;
+    while k < count {
+        let at = record_at(data, k);
+        make_frames(data, at);
+        let same = agrees(data, at, grey, words);
+        tally = tally::add_record(tally, data, same);
+        k += 1;
+    }
+    tally::say_all(tally);
+}
+
+// Arrays of this size become slices only here: the prover need not look at their elements.
+fn run(data: &mut [u8; DATA_MEMORY], grey: &mut [u8; GREY_MEMORY], words: &mut [u64; WORD_MEMORY]) {
+    read_vectors(data);
+    run_records(data, grey, words);
+}
+
+fn main() {
+    let mut data = [0u8; DATA_MEMORY];
+    let mut grey = [0u8; GREY_MEMORY];
+    let mut words = [0u64; WORD_MEMORY];
+    run(&mut data, &mut grey, &mut words);
+}
