@@ -1,5 +1,6 @@
 // The difference count of two frames' four lent bitmaps.
 
+pub mod edges;
 pub mod interior;
 pub mod rows;
 

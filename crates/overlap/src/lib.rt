@@ -1,8 +1,8 @@
 // The difference count of two frames that are moved against each other by whole rows only: one run of
 // words of the first against one of the second.
 
-use count::adder::seven_ones;
-use count::ones::word_ones;
+use popcount::adder::seven_word_count;
+use popcount::table::word_count;
 use refusals::row_words;
 use words::BIAS;
 use words::biased;
@@ -15,8 +15,9 @@ ghost use Rattle.rules.specs.Sums.{sum};
 ghost use Rattle.rules.specs.Differences.{difference};
 ghost use Rattle.rules.specs.Calls.{planesOf};
 ghost use Rattle.words.specs.Rows.{WordOf};
-ghost use Rattle.count.specs.Ones.{CountsOnes};
-ghost use Rattle.count.specs.Rows.{Adds, FramesIn};
+ghost use Rattle.popcount.specs.Table.{CountsBits};
+ghost use Rattle.popcount.specs.Rows.{Adds};
+ghost use Rattle.difference.specs.Rows.{FramesIn};
 ghost use Rattle.overlap.specs.Runs.{runDiffer, RunsIn, Clean};
 
 // The pixels at which word k of the two runs differs.
@@ -47,14 +48,14 @@ fn run_block(
     x: usize,
     len: usize,
     k: usize,
-    ones: &[u8; 256],
+    table: &[u8; 256],
 ) -> u32
     requires here { ⌜ k + 7 ≤ len ⌝ }
     requires runs { ⌜ RunsIn (now t1) (now e1) (now t2) (now e2) i x len ⌝ }
-    requires table { ⌜ CountsOnes (now ones) ⌝ }
+    requires table { ⌜ CountsBits (now table) ⌝ }
     ensures { λ r. ⌜ Adds (runDiffer (now (t1 .entry)) (now (e1 .entry)) (now (t2 .entry)) (now (e2 .entry)) i x) k (k + 7) r ⌝ }
 {
-    seven_ones(
+    seven_word_count(
         run_word(t1, e1, t2, e2, i, x, len, k),
         run_word(t1, e1, t2, e2, i, x, len, k + 1),
         run_word(t1, e1, t2, e2, i, x, len, k + 2),
@@ -62,7 +63,7 @@ fn run_block(
         run_word(t1, e1, t2, e2, i, x, len, k + 4),
         run_word(t1, e1, t2, e2, i, x, len, k + 5),
         run_word(t1, e1, t2, e2, i, x, len, k + 6),
-        ones,
+        table,
     )
 }
 
@@ -76,17 +77,17 @@ fn run_blocks(
     x: usize,
     len: usize,
     rest: usize,
-    ones: &[u8; 256],
+    table: &[u8; 256],
 ) -> u32
     requires sevens { ⌜ (rest % 7 ≡ 0) × (rest ≤ len) ⌝ }
     requires runs { ⌜ RunsIn (now t1) (now e1) (now t2) (now e2) i x len ⌝ }
-    requires table { ⌜ CountsOnes (now ones) ⌝ }
+    requires table { ⌜ CountsBits (now table) ⌝ }
     ensures { λ r. ⌜ Adds (runDiffer (now (t1 .entry)) (now (e1 .entry)) (now (t2 .entry)) (now (e2 .entry)) i x) 0 rest r ⌝ }
 {
     let mut count: u32 = 0;
     let mut k: usize = 0;
     while k < rest {
-        count += run_block(t1, e1, t2, e2, i, x, len, k, ones);
+        count += run_block(t1, e1, t2, e2, i, x, len, k, table);
         k += 7;
     }
     count
@@ -102,17 +103,17 @@ fn run_rest(
     x: usize,
     len: usize,
     rest: usize,
-    ones: &[u8; 256],
+    table: &[u8; 256],
 ) -> u32
     requires left { ⌜ rest ≤ len ⌝ }
     requires runs { ⌜ RunsIn (now t1) (now e1) (now t2) (now e2) i x len ⌝ }
-    requires table { ⌜ CountsOnes (now ones) ⌝ }
+    requires table { ⌜ CountsBits (now table) ⌝ }
     ensures { λ r. ⌜ Adds (runDiffer (now (t1 .entry)) (now (e1 .entry)) (now (t2 .entry)) (now (e2 .entry)) i x) rest len r ⌝ }
 {
     let mut count: u32 = 0;
     let mut k = rest;
     while k < len {
-        count += word_ones(run_word(t1, e1, t2, e2, i, x, len, k), ones);
+        count += word_count(run_word(t1, e1, t2, e2, i, x, len, k), table);
         k += 1;
     }
     count
@@ -127,15 +128,15 @@ fn run_difference(
     i: usize,
     x: usize,
     len: usize,
-    ones: &[u8; 256],
+    table: &[u8; 256],
 ) -> u32
     requires runs { ⌜ RunsIn (now t1) (now e1) (now t2) (now e2) i x len ⌝ }
-    requires table { ⌜ CountsOnes (now ones) ⌝ }
+    requires table { ⌜ CountsBits (now table) ⌝ }
     ensures { λ r. ⌜ r ≡ sum (len * wordBits) (runDiffer (now (t1 .entry)) (now (e1 .entry)) (now (t2 .entry)) (now (e2 .entry)) i x) ⌝ }
 {
     let rest = len - len % 7;
-    run_blocks(t1, e1, t2, e2, i, x, len, rest, ones)
-        + run_rest(t1, e1, t2, e2, i, x, len, rest, ones)
+    run_blocks(t1, e1, t2, e2, i, x, len, rest, table)
+        + run_rest(t1, e1, t2, e2, i, x, len, rest, table)
 }
 
 // Of two frames of w by h pixels. The rows that have a partner begin at row `top` of the first frame and
@@ -149,13 +150,13 @@ pub fn overlap_frame(
     e1: &[u64],
     t2: &[u64],
     e2: &[u64],
-    ones: &[u8; 256],
+    table: &[u8; 256],
 ) -> u32
     requires width { ⌜ w ≤ maxSide ⌝ }
     requires height { ⌜ h ≤ maxSide ⌝ }
     requires frames { ⌜ FramesIn (now t1) (now e1) (now t2) (now e2) w h ⌝ }
     requires clean { ⌜ Clean w h (now e2) ⌝ }
-    requires table { ⌜ CountsOnes (now ones) ⌝ }
+    requires table { ⌜ CountsBits (now table) ⌝ }
     ensures { λ r. ⌜ r ≡ difference w h (pos 0) dy (planesOf w h (now (t1 .entry)) (now (e1 .entry))) (planesOf w h (now (t2 .entry)) (now (e2 .entry))) ⌝ }
 {
     let up = biased(dy);
@@ -167,5 +168,5 @@ pub fn overlap_frame(
     }
     let n = row_words(w);
     let rows = h - (top + from);
-    run_difference(t1, e1, t2, e2, top * n, from * n, rows * n, ones)
+    run_difference(t1, e1, t2, e2, top * n, from * n, rows * n, table)
 }

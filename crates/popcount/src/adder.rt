@@ -27,11 +27,20 @@ fn full_adder(a: u64, b: u64, c: u64) -> Sums
 }
 
 // Words without a 1 are left before the look-ups.
-pub fn seven_word_count(a: u64, b: u64, c: u64, d: u64, e: u64, f: u64, g: u64, table: &[u8; 256]) -> u32
+pub fn seven_word_count(
+    a: u64,
+    b: u64,
+    c: u64,
+    d: u64,
+    e: u64,
+    f: u64,
+    g: u64,
+    table: &[u8; 256],
+) -> u32
     requires { ⌜ CountsBits (now table) ⌝ }
     ensures { λ r. ⌜
         r ≡ sum wordBits (bit a) + sum wordBits (bit b) + sum wordBits (bit c) + sum wordBits (bit d)
-          + sum wordBits (bit e) + sum wordBits (bit f) + sum wordBits (bit g) ⌝ }
+        + sum wordBits (bit e) + sum wordBits (bit f) + sum wordBits (bit g) ⌝ }
 {
     let abc = full_adder(a, b, c);
     let def = full_adder(d, e, f);
@@ -40,5 +49,7 @@ pub fn seven_word_count(a: u64, b: u64, c: u64, d: u64, e: u64, f: u64, g: u64, 
     if (all.low | carried.low | carried.carry) == 0 {
         return 0;
     }
-    word_count(all.low, table) + 2 * word_count(carried.low, table) + 4 * word_count(carried.carry, table)
+    word_count(all.low, table)
+        + 2 * word_count(carried.low, table)
+        + 4 * word_count(carried.carry, table)
 }

@@ -2,7 +2,7 @@
 use Prim.Native.Nat.{ℕ, _+_, _≤_}
 use native.Mathlib.Omega.{arith}
 use Rattle.overlap.specs.Runs.{runDiffer}
-use Rattle.count.proofs.RowLaws.{seven-adds}
+use Rattle.popcount.proofs.RowLaws.{seven-adds}
 use Rattle.overlap.proofs.run_block.Statement.{statement}
 use Rattle.overlap.proofs.run_block.Tie as tie
 
@@ -48,8 +48,8 @@ add-run-word-6 c = omega (arith, near (c .before .before .before .before .before
 run-word-requires-7 : tie.Need-run-word-requires-7
 run-word-requires-7 c κs = let s = c .before .before .before .before .before .before .before .before .before .before in (omega (arith, s .pre .0), s .pre .1 .0)
 
-seven-ones-requires : tie.Need-seven-ones-requires
-seven-ones-requires c κs = c .before .before .before .before .before .before .before .before .before .before .before .pre .1 .1
+seven-word-count-requires : tie.Need-seven-word-count-requires
+seven-word-count-requires c κs = c .before .before .before .before .before .before .before .before .before .before .before .pre .1 .1
 
 returns : tie.Need-returns
 returns c =
@@ -63,8 +63,8 @@ returns c =
     let w5 = c .before .before .before .run-word5 in
     let w6 = c .before .before .run-word6 in
     let w7 = c .before .run-word7 in
-    seven-adds f (a .k) (w1 .result) (w2 .result) (w3 .result) (w4 .result) (w5 .result) (w6 .result) (w7 .result) (c .seven-ones .result)
-    (w1 .ensures) (w2 .ensures) (w3 .ensures) (w4 .ensures) (w5 .ensures) (w6 .ensures) (w7 .ensures) (c .seven-ones .ensures)
+    seven-adds f (a .k) (w1 .result) (w2 .result) (w3 .result) (w4 .result) (w5 .result) (w6 .result) (w7 .result) (c .seven-word-count .result)
+    (w1 .ensures) (w2 .ensures) (w3 .ensures) (w4 .ensures) (w5 .ensures) (w6 .ensures) (w7 .ensures) (c .seven-word-count .ensures)
 
 pub run-block-spec : {M : Type 1} → statement M
 run-block-spec =
@@ -83,5 +83,5 @@ run-block-spec =
     run-word-requires-6
     add-run-word-6
     run-word-requires-7
-    seven-ones-requires
+    seven-word-count-requires
     returns)

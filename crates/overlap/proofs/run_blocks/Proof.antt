@@ -3,18 +3,18 @@ use mathlib.Core.Path.{_≡_}
 use Prim.Native.Nat.{ℕ, _+_, _-_, _%_, _≤_}
 use native.Mathlib.Omega.{arith}
 use borrow.Author.Needs.{needs}
-use Rattle.count.specs.Rows.{Adds}
+use Rattle.popcount.specs.Rows.{Adds}
 use Rattle.overlap.specs.Runs.{runDiffer}
-use Rattle.count.proofs.RowLaws.{adds-none, adds-more, adds-next-le}
+use Rattle.popcount.proofs.RowLaws.{adds-none, adds-more, adds-next-le}
 use Rattle.overlap.proofs.OverlapLaws.{runDiffer-lt}
 use Rattle.overlap.proofs.run_blocks.Statement.{statement}
 use Rattle.overlap.proofs.run_blocks.Tie as tie
 
 abbrev Inv-loop : tie.InvT-loop
-Inv-loop t1 e1 t2 e2 i x len rest ones count₀ k₀ count k = (k ≤ rest) × (((rest - k) % 7 ≡ 0) × Adds (runDiffer t1 e1 t2 e2 i x) 0 k count)
+Inv-loop t1 e1 t2 e2 i x len rest table count₀ k₀ count k = (k ≤ rest) × (((rest - k) % 7 ≡ 0) × Adds (runDiffer t1 e1 t2 e2 i x) 0 k count)
 
 abbrev μ-loop : tie.MeasureT-loop
-μ-loop t1 e1 t2 e2 i x len rest ones count₀ k₀ count k = rest - k
+μ-loop t1 e1 t2 e2 i x len rest table count₀ k₀ count k = rest - k
 
 abbrev run : tie.Start Inv-loop μ-loop → ℕ → ℕ
 run c = let a = c .args in runDiffer (a .t1 .now) (a .e1 .now) (a .t2 .now) (a .e2 .now) (a .i) (a .x)

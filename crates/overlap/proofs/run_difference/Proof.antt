@@ -5,7 +5,7 @@ use native.Mathlib.Omega.{arith}
 use borrow.Author.Needs.{needs}
 use Rattle.rules.specs.Sums.{sum}
 use Rattle.overlap.specs.Runs.{runDiffer}
-use Rattle.count.proofs.RowLaws.{bits-le}
+use Rattle.popcount.proofs.RowLaws.{bits-le}
 use Rattle.overlap.proofs.OverlapLaws.{runDiffer-lt, run-whole}
 use Rattle.overlap.proofs.run_difference.Statement.{statement}
 use Rattle.overlap.proofs.run_difference.Tie as tie

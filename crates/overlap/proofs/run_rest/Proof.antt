@@ -3,18 +3,18 @@ use mathlib.Core.Path.{_≡_}
 use Prim.Native.Nat.{ℕ, _+_, _-_, _≤_}
 use native.Mathlib.Omega.{arith}
 use borrow.Author.Needs.{needs}
-use Rattle.count.specs.Rows.{Adds}
+use Rattle.popcount.specs.Rows.{Adds}
 use Rattle.overlap.specs.Runs.{runDiffer}
-use Rattle.count.proofs.RowLaws.{adds-none, adds-next-le, word-adds, word-next}
+use Rattle.popcount.proofs.RowLaws.{adds-none, adds-next-le, word-adds, word-next}
 use Rattle.overlap.proofs.OverlapLaws.{runDiffer-lt}
 use Rattle.overlap.proofs.run_rest.Statement.{statement}
 use Rattle.overlap.proofs.run_rest.Tie as tie
 
 abbrev Inv-loop : tie.InvT-loop
-Inv-loop t1 e1 t2 e2 i x len rest ones count₀ k₀ count k = (k ≤ len) × Adds (runDiffer t1 e1 t2 e2 i x) rest k count
+Inv-loop t1 e1 t2 e2 i x len rest table count₀ k₀ count k = (k ≤ len) × Adds (runDiffer t1 e1 t2 e2 i x) rest k count
 
 abbrev μ-loop : tie.MeasureT-loop
-μ-loop t1 e1 t2 e2 i x len rest ones count₀ k₀ count k = len - k
+μ-loop t1 e1 t2 e2 i x len rest table count₀ k₀ count k = len - k
 
 abbrev run : tie.Start Inv-loop μ-loop → ℕ → ℕ
 run c = let a = c .args in runDiffer (a .t1 .now) (a .e1 .now) (a .t2 .now) (a .e2 .now) (a .i) (a .x)
@@ -25,8 +25,8 @@ loop-holds c = let s = c .before .before .before .before in (s .pre .0, adds-non
 run-word-requires : tie.Need-run-word-requires Inv-loop μ-loop
 run-word-requires c κs = (c .loop-test .taken, c .before .before .before .before .before .before .pre .1 .0)
 
-word-ones-requires : tie.Need-word-ones-requires Inv-loop μ-loop
-word-ones-requires c κs = search needs
+word-count-requires : tie.Need-word-count-requires Inv-loop μ-loop
+word-count-requires c κs = search needs
 
 add-count : tie.Need-add-count Inv-loop μ-loop
 add-count c =
@@ -37,8 +37,8 @@ add-count c =
     omega (
       arith,
       s .pre .1 .0 .short,
-      adds-next-le (run s) (a .rest) (l .k) (l .k + 1) (l .count) (c .word-ones .result) (runDiffer-lt (a .t1 .now) (a .e1 .now) (a .t2 .now) (a .e2 .now) (a .i) (a .x)) (l .inv .1)
-          (word-adds (run s) (l .k) (v .result) (c .word-ones .result) (v .ensures) (c .word-ones .ensures)),
+      adds-next-le (run s) (a .rest) (l .k) (l .k + 1) (l .count) (c .word-count .result) (runDiffer-lt (a .t1 .now) (a .e1 .now) (a .t2 .now) (a .e2 .now) (a .i) (a .x)) (l .inv .1)
+          (word-adds (run s) (l .k) (v .result) (c .word-count .result) (v .ensures) (c .word-count .ensures)),
     )
 
 add-k : tie.Need-add-k Inv-loop μ-loop
@@ -52,7 +52,7 @@ loop-again c =
     let s = c .before .before .before .before .before .before .before .before in
     let l = c .before .before .before .loop in
     let v = c .before .run-word in
-    (omega arith, word-next (run s) (s .args .rest) (l .k) (l .count) (v .result) (c .word-ones .result) (l .inv .1) (v .ensures) (c .word-ones .ensures))
+    (omega arith, word-next (run s) (s .args .rest) (l .k) (l .count) (v .result) (c .word-count .result) (l .inv .1) (v .ensures) (c .word-count .ensures))
 
 returns : tie.Need-returns Inv-loop μ-loop
 returns c =
@@ -68,7 +68,7 @@ run-rest-spec =
     μ-loop
     loop-holds
     run-word-requires
-    word-ones-requires
+    word-count-requires
     add-count
     add-k
     loop-less
