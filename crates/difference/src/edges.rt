@@ -121,6 +121,44 @@ fn edge_words(
     count
 }
 
+// The words on either side of the interior, one by one. Each side has a function of its own, small
+// enough to stand in its callers, so that only rows that come here pay for lending the slices on.
+fn words_before(
+    t1: &[u64],
+    e1: &[u64],
+    t2: &[u64],
+    e2: &[u64],
+    base: usize,
+    from: usize,
+    m: Move,
+    table: &[u8; 256],
+) -> u32
+    requires moves { ⌜ Moves m ⌝ }
+    requires rows { ⌜ RowsIn (now t1) (now e1) (now t2) (now e2) base from (m .w) ⌝ }
+    requires table { ⌜ CountsBits (now table) ⌝ }
+    ensures { λ r. ⌜ Adds (movedDiffer (now (t1 .entry)) (now (e1 .entry)) (now (t2 .entry)) (now (e2 .entry)) base from m) 0 (m .first) r ⌝ }
+{
+    edge_words(t1, e1, t2, e2, base, from, m, 0, m.first, table)
+}
+
+fn words_after(
+    t1: &[u64],
+    e1: &[u64],
+    t2: &[u64],
+    e2: &[u64],
+    base: usize,
+    from: usize,
+    m: Move,
+    table: &[u8; 256],
+) -> u32
+    requires moves { ⌜ Moves m ⌝ }
+    requires rows { ⌜ RowsIn (now t1) (now e1) (now t2) (now e2) base from (m .w) ⌝ }
+    requires table { ⌜ CountsBits (now table) ⌝ }
+    ensures { λ r. ⌜ Adds (movedDiffer (now (t1 .entry)) (now (e1 .entry)) (now (t2 .entry)) (now (e2 .entry)) base from m) (m .end) (m .n) r ⌝ }
+{
+    edge_words(t1, e1, t2, e2, base, from, m, m.end, m.n, table)
+}
+
 // The words before the interior. For most moves that is none, told by one test and no call, or the
 // first alone.
 pub fn left_edge(
@@ -144,7 +182,7 @@ pub fn left_edge(
     if m.first == 1 && m.q == BIAS_WORDS && WORD_BITS <= m.w {
         return first_word(t1, e1, t2, e2, base, from, m, 0, table);
     }
-    edge_words(t1, e1, t2, e2, base, from, m, 0, m.first, table)
+    words_before(t1, e1, t2, e2, base, from, m, table)
 }
 
 // The words after the interior, likewise: none, the last alone, or any.
@@ -169,5 +207,5 @@ pub fn right_edge(
     if m.q == BIAS_WORDS - 1 && m.end + 1 == m.n {
         return last_word(t1, e1, t2, e2, base, from, m, m.end, table);
     }
-    edge_words(t1, e1, t2, e2, base, from, m, m.end, m.n, table)
+    words_after(t1, e1, t2, e2, base, from, m, table)
 }

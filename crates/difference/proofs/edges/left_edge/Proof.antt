@@ -27,13 +27,11 @@ returns-2 c =
     let e : 0 + 1 ≡ c .before .before .before .before .before .before .before .before .before .before .before .before .before .args .m .first = omega arith in
     rw (← e) (c .first-word .ensures)
 
-edge-words-requires : tie.Need-edge-words-requires
-edge-words-requires c κs =
-    let s = c .before .before .before .before .before .before .before .before in
-    (s .pre .0, ((omega arith, omega (arith, s .pre .0)), (s .pre .1 .0, s .pre .1 .1)))
+words-before-requires : tie.Need-words-before-requires
+words-before-requires c κs = search needs
 
 returns-3 : tie.Need-returns-3
 returns-3 c = search needs
 
 pub left-edge-spec : {M : Type 1} → statement M
-left-edge-spec = tie.close (tie.spec returns first-word-requires returns-2 edge-words-requires returns-3)
+left-edge-spec = tie.close (tie.spec returns first-word-requires returns-2 words-before-requires returns-3)

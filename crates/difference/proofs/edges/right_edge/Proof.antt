@@ -33,10 +33,8 @@ returns-2 c =
     let e : a .m .end + 1 ≡ a .m .n = eqb-true (a .m .end + 1) (a .m .n) (c .before .if3 .taken) in
     rw (← e) (c .last-word .ensures)
 
-edge-words-requires : tie.Need-edge-words-requires
-edge-words-requires c κs =
-    let s = c .before .before .before .before .before .before .before .before in
-    (s .pre .0, ((s .pre .0 .ends, omega arith), (s .pre .1 .0, s .pre .1 .1)))
+words-after-requires : tie.Need-words-after-requires
+words-after-requires c κs = search needs
 
 returns-3 : tie.Need-returns-3
 returns-3 c = search needs
@@ -50,5 +48,5 @@ right-edge-spec =
     add-if3
     last-word-requires
     returns-2
-    edge-words-requires
+    words-after-requires
     returns-3)
