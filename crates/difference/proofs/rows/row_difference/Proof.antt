@@ -27,7 +27,8 @@ add-result c =
       row-words-le (a .m .w) (s .pre .0 .width),
       s .pre .0,
       adds-le (row s) 0 (a .m .end) (x .result + c .interior .result)
-          (movedDiffer-lt (a .t1 .now) (a .e1 .now) (a .t2 .now) (a .e2 .now) (a .base) (a .from) (a .m)) (adds-more (row s) 0 (a .m .first) (a .m .end) (x .result) (c .interior .result) (x .ensures) (c .interior .ensures)),
+          (movedDiffer-lt (a .t1 .now) (a .e1 .now) (a .t2 .now) (a .e2 .now) (a .base) (a .from) (a .m))
+          (adds-more (row s) 0 (a .m .first) (a .m .end) (x .result) (c .interior .result) (x .ensures) (c .interior .ensures)),
     )
 
 right-edge-requires : tie.Need-right-edge-requires
