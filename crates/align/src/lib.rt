@@ -2,10 +2,10 @@
 
 pub mod pairs;
 
-use count::ones::ONES;
 use frame::conversion::convert;
 use lending::pair_refusal;
 use pairs::align_frames;
+use popcount::table::BIT_COUNTS;
 use rules::Paired;
 ghost use mathlib.Core.Path.{_≡_};
 ghost use Rattle.rules.specs.Answers.{paired, bufferAfter};
@@ -46,7 +46,7 @@ pub fn pair(
     let area = w * h;
     convert(first, area, grey, 0);
     convert(second, area, grey, area);
-    let ones = ONES;
+    let ones = BIT_COUNTS;
     Paired::Moved(align_frames(
         grey,
         0,

@@ -9,7 +9,7 @@ ghost use lib.ListN.{length, getD, drop};
 ghost use Rattle.rules.specs.Bitmaps.{rowWords};
 ghost use Rattle.rules.specs.Refusals.{greyNeeded};
 ghost use Rattle.rules.specs.Levels.{added, Near};
-ghost use Rattle.count.specs.Ones.{CountsOnes};
+ghost use Rattle.popcount.specs.Table.{CountsBits};
 ghost use Rattle.align.specs.Aligns.{Frames, Aligns};
 
 // An offset of the next coarser level, at this one.
@@ -43,7 +43,7 @@ pub fn align_frames(
     requires percent { ⌜ (1 ≤ percentile) × (percentile ≤ 99) ⌝ }
     requires room { ⌜ 6 * (rowWords w * h) ≤ length (now words) ⌝ }
     requires levels { ⌜ at + 9 * (s + 1) ≤ length (now counts) ⌝ }
-    requires table { ⌜ CountsOnes (now ones) ⌝ }
+    requires table { ⌜ CountsBits (now ones) ⌝ }
     ensures { λ r. ⌜ Aligns first second w h s percentile tolerance at (now (grey .entry)) (now (grey .exit)) (now (counts .entry)) (now (counts .exit)) r ⌝ }
 {
     if s == 0 {

@@ -11,7 +11,7 @@ ghost use lib.ListN.{length};
 ghost use Rattle.rules.specs.Bitmaps.{rowWords};
 ghost use Rattle.rules.specs.Buffers.{RowAt};
 ghost use Rattle.rules.specs.Levels.{candidateAt, Near};
-ghost use Rattle.count.specs.Ones.{CountsOnes};
+ghost use Rattle.popcount.specs.Table.{CountsBits};
 ghost use Rattle.level.specs.Sides.{Sides};
 ghost use Rattle.level.specs.Places.{KeptTo, SlidAt, wordsCount};
 ghost use Rattle.level.specs.Choices.{nineOf, columnOf};
@@ -34,7 +34,7 @@ fn count_slid(words: &[u64], w: usize, h: usize, m: Offset, ones: &[u8; 256]) ->
     requires room { ⌜ 6 * (rowWords w * h) ≤ length (now words) ⌝ }
     requires near { ⌜ Near 1000001 m ⌝ }
     requires slid { ⌜ SlidAt w h (m .dx) (now words) ⌝ }
-    requires table { ⌜ CountsOnes (now ones) ⌝ }
+    requires table { ⌜ CountsBits (now ones) ⌝ }
     ensures { λ r. ⌜ r ≡ wordsCount w h (now (words .entry)) m ⌝ }
 {
     let n = bitmap_words(w, h);
@@ -67,7 +67,7 @@ fn three_counts(
     requires column { ⌜ i < 3 ⌝ }
     requires slid { ⌜ SlidAt w h (candidateAt centre (3 * i) .dx) (now words) ⌝ }
     requires three { ⌜ at + 3 ≤ length (now counts) ⌝ }
-    requires table { ⌜ CountsOnes (now ones) ⌝ }
+    requires table { ⌜ CountsBits (now ones) ⌝ }
     ensures { λ _. ⌜ RowAt at (columnOf (wordsCount w h (now (words .entry))) centre i) (now (counts .entry)) 3 (now (counts .exit)) ⌝ }
 {
     let mut j: usize = 0;
@@ -93,7 +93,7 @@ pub fn nine_counts(
     requires room { ⌜ 6 * (rowWords w * h) ≤ length (now words) ⌝ }
     requires near { ⌜ Near 1000000 centre ⌝ }
     requires nine { ⌜ at + 9 ≤ length (now counts) ⌝ }
-    requires table { ⌜ CountsOnes (now ones) ⌝ }
+    requires table { ⌜ CountsBits (now ones) ⌝ }
     ensures { λ _. ⌜ RowAt at (nineOf (wordsCount w h (now (words .entry))) centre) (now (counts .entry)) 9 (now (counts .exit)) ⌝ }
 {
     let mut i: usize = 0;

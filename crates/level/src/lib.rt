@@ -14,7 +14,7 @@ ghost use lib.ListN.{length, drop};
 ghost use Rattle.rules.specs.Frames.{frameOf};
 ghost use Rattle.rules.specs.Bitmaps.{rowWords};
 ghost use Rattle.rules.specs.Levels.{byTolerance, countAt, Near};
-ghost use Rattle.count.specs.Ones.{CountsOnes};
+ghost use Rattle.popcount.specs.Table.{CountsBits};
 ghost use Rattle.level.specs.Sides.{Sides};
 ghost use Rattle.level.specs.Choices.{Settled};
 
@@ -40,7 +40,7 @@ pub fn settle(
     requires room { ⌜ 6 * (rowWords w * h) ≤ length (now words) ⌝ }
     requires near { ⌜ Near 1000000 centre ⌝ }
     requires nine { ⌜ at + 9 ≤ length (now counts) ⌝ }
-    requires table { ⌜ CountsOnes (now ones) ⌝ }
+    requires table { ⌜ CountsBits (now ones) ⌝ }
     ensures { λ r. ⌜ Settled (countAt (byTolerance tolerance) percentile w h (frameOf w (drop first (now (grey .entry)))) (frameOf w (drop second (now (grey .entry))))) centre at (now (counts .entry)) (now (counts .exit)) r ⌝ }
 {
     let n = bitmap_words(w, h);

@@ -56,7 +56,7 @@ pub extern "C" fn mtb_total(w: u32, h: u32, bitmap: &[u64], count: &mut u32) -> 
     ensures answer { λ n. ⌜ n ≡ totalRefusal w h (length (now (bitmap .entry))) ⌝ }
     ensures count { λ _. ⌜ now (count .exit) ≡ valueAfter (totalRefusal w h (length (now (bitmap .entry)))) (total w h (bitAt w h (now (bitmap .entry)))) (now (count .entry)) ⌝ }
 {
-    match count::total(w as usize, h as usize, bitmap) {
+    match total::total(w as usize, h as usize, bitmap) {
         Counted::Count(ones) => {
             *count = ones;
             0
@@ -80,7 +80,7 @@ pub extern "C" fn mtb_difference(
     ensures answer { λ n. ⌜ n ≡ differenceRefusal w h (length (now (threshold1 .entry))) (length (now (exclusion1 .entry))) (length (now (threshold2 .entry))) (length (now (exclusion2 .entry))) ⌝ }
     ensures count { λ _. ⌜ now (count .exit) ≡ valueAfter (differenceRefusal w h (length (now (threshold1 .entry))) (length (now (exclusion1 .entry))) (length (now (threshold2 .entry))) (length (now (exclusion2 .entry)))) (difference w h dx dy (planesOf w h (now (threshold1 .entry)) (now (exclusion1 .entry))) (planesOf w h (now (threshold2 .entry)) (now (exclusion2 .entry)))) (now (count .entry)) ⌝ }
 {
-    match count::difference(
+    match difference::difference(
         w as usize,
         h as usize,
         dx,

@@ -1,13 +1,13 @@
 // The pairs of a series, one after another.
 
 use align::pairs::align_frames;
-use count::ones::ONES;
 use frame::conversion::convert;
+use popcount::table::BIT_COUNTS;
 ghost use mathlib.Core.Path.{_≡_};
 ghost use Prim.Native.Nat.{_<_, _≤_};
 ghost use lib.ListN.{length, set};
 ghost use Rattle.rules.specs.Accepted.{SeriesOk};
-ghost use Rattle.count.specs.Ones.{CountsOnes};
+ghost use Rattle.popcount.specs.Table.{CountsBits};
 ghost use Rattle.offsets.specs.Held.{slotOf};
 ghost use Rattle.series.specs.Runs.{placeOf, Stands, pairAt, pairsOf, Room, Ran, Paired};
 
@@ -54,7 +54,7 @@ fn align_next(
     requires room { ⌜ Room w h s k (length (now rasters)) (length (now offsets)) (length (now counts)) (length (now grey)) (length (now words)) ⌝ }
     requires percent { ⌜ (1 ≤ percentile) × (percentile ≤ 99) ⌝ }
     requires stands { ⌜ Stands w h (now rasters) k (now grey) ⌝ }
-    requires table { ⌜ CountsOnes (now ones) ⌝ }
+    requires table { ⌜ CountsBits (now ones) ⌝ }
     ensures { λ _. ⌜ Ran w h s r k (now (rasters .entry)) (pairAt w h s tolerance percentile (now (rasters .entry)) k) (now (offsets .entry)) (now (offsets .exit)) (now (counts .entry)) (now (counts .exit)) (now (grey .exit)) ⌝ }
 {
     let area = w * h;
@@ -101,7 +101,7 @@ pub fn align_pairs(
     ensures { λ _. ⌜ Paired n r (pairsOf w h s tolerance (now (percentiles .entry)) (now (rasters .entry))) (now (offsets .entry)) (now (offsets .exit)) (now (counts .entry)) (now (counts .exit)) ⌝ }
 {
     convert(rasters, w * h, grey, 0);
-    let ones = ONES;
+    let ones = BIT_COUNTS;
     let mut k: usize = 0;
     while k + 1 < n {
         align_next(

@@ -71,14 +71,14 @@ fn total_number(data: &[u8], at: usize) -> u32 {
     let mut bitmap = [0u64; MOST_WORDS];
     load_bitmap(data, at, INPUT1, &mut bitmap);
     let bits = first_words(&bitmap, second(data, at, INPUT1));
-    let answer = count::total(size(data, at, WIDTH), size(data, at, HEIGHT), bits);
+    let answer = total::total(size(data, at, WIDTH), size(data, at, HEIGHT), bits);
     answers::counted(answer, field(data, at, VALUE1))
 }
 
 fn difference_of(data: &[u8], at: usize, t1: &[u64], e1: &[u64], t2: &[u64], e2: &[u64]) -> u32 {
     let dx = signed(field(data, at, MOVE_X));
     let dy = signed(field(data, at, MOVE_Y));
-    let answer = count::difference(
+    let answer = difference::difference(
         size(data, at, WIDTH),
         size(data, at, HEIGHT),
         dx,

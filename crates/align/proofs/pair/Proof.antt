@@ -7,7 +7,7 @@ use lib.ListN.{length}
 use Rattle.rules.specs.declared.Paired.{Paired}
 use Rattle.rules.proofs.RefusalLaws.{buffer-refused}
 use Rattle.rules.proofs.AlignmentLaws.{pair-ok, paired-refused, level-pixels-at}
-use Rattle.count.proofs.OnesLaws.{counts-ones}
+use Rattle.popcount.proofs.TableLaws.{counts-bits}
 use Rattle.align.proofs.PairCallLaws.{converted, converted-kept, pair-offset, pair-counts, pair-frames}
 use borrow.Author.Needs.{needs}
 use Rattle.align.proofs.pair.Statement.{statement}
@@ -48,7 +48,7 @@ align-frames-requires c κs =
     let k = pair-ok (a .w) (a .h) (a .s) (a .tolerance) (a .percentile) (length (a .first .now)) (length (a .second .now)) (length (a .counts .now)) (length (a .grey .now)) (length (a .words .now)) (sym (c .before .before .before .before .before .before .before .before .before .before .before .before .before .pair-refusal .ensures) ∙ c .before .before .before .before .before .before .before .before .before .before .before .before .if1 .left) in
     let l = c .before .before .before .before .before .before .convert2 .ensures .len ∙ c .before .before .before .before .before .before .before .before .before .before .convert .ensures .len in
     let f = pair-frames _ _ _ _ _ _ _ _ _ _ k in
-    (rw l f, ((k .least, k .most), (omega (arith, k .bitmaps), (omega (arith, k .room), counts-ones))))
+    (rw l f, ((k .least, k .most), (omega (arith, k .bitmaps), (omega (arith, k .room), counts-bits))))
 
 same-length : tie.Need-same-length
 same-length c = search needs

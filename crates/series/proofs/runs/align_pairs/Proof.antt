@@ -6,7 +6,7 @@ use lib.ListN.{length}
 use borrow.Author.Needs.{needs}
 use Rattle.rules.specs.Accepted.{SeriesOk}
 use Rattle.rules.proofs.AlignmentLaws.{level-pixels-at}
-use Rattle.count.proofs.OnesLaws.{counts-ones}
+use Rattle.popcount.proofs.TableLaws.{counts-bits}
 use Rattle.series.specs.Runs.{pairsOf, Run}
 use Rattle.series.proofs.RunLaws.{whole-room, pair-sizes, room-at, room-kept, run-none, first-stands-at, run-more, run-all}
 use Rattle.series.proofs.runs.align_pairs.Statement.{statement}
@@ -74,7 +74,7 @@ align-next-requires c κs =
     let t : l .loop .k + 1 < a .n = omega arith in
     let k : l .loop .k < a .n - 1 = omega arith in (
       room-at (a .w) (a .h) (a .s) (a .tolerance) (a .n) (a .r) (a .percentiles .now) (length (a .rasters .now)) (length (l .loop .offsets)) (length (l .loop .counts)) (length (l .loop .grey)) (length (l .loop .words)) (l .loop .k) o t,
-      (o .percentile (l .loop .k) k, (l .loop .inv .1 .stands, counts-ones)),
+      (o .percentile (l .loop .k) k, (l .loop .inv .1 .stands, counts-bits)),
     )
 
 add-k : tie.Need-add-k Inv-loop μ-loop
