@@ -1,5 +1,5 @@
 -- The difference of two frames, row by row and word by word.
-use mathlib.Core.Path.{_≡_, refl, sym, ap, ap₂, _∙_}
+use mathlib.Core.Path.{_≡_, refl, sym, ap, ap₂, subst, _∙_}
 use mathlib.Core.Bool.{Bool, true, false, _&&_, not}
 use mathlib.Core.Logic.{⊎-elim}
 use mathlib.Core.List.{List}
@@ -23,11 +23,11 @@ use Rattle.words.specs.Rows.{WordOf, rowBit, back, bias, biasWords, biasOf}
 use Rattle.words.specs.Moves.{movedBit, Joined, Interior}
 use Rattle.words.proofs.BitLaws.{bit-and, bit-xor, bit-zero}
 use Rattle.words.proofs.MoveLaws.{gate-lt, gate-ge, row-bit, row-whole, row-past, back-at, back-under, within-back}
-use Rattle.words.proofs.JoinLaws.{MovedIn, raw-moved}
+use Rattle.words.proofs.JoinLaws.{MovedIn, raw-word, raw-moved, joined-moved, whole-moved}
 use Rattle.popcount.specs.Rows.{Adds}
 use Rattle.difference.specs.Rows.{disagree, rowDiffer, lineDiffer, movedDiffer, RowsIn, FramesIn}
 use Rattle.popcount.proofs.AdderLaws.{Bit, off, on, bit-case}
-use Rattle.difference.proofs.KeptLaws.{keptBit, row-case, moved-case, kept-first, kept-partner, kept-word}
+use Rattle.difference.proofs.KeptLaws.{keptBit, row-case, moved-case, kept-first, kept-partner, kept-word, kept-right}
 use Rattle.popcount.proofs.RowLaws.{word-adds, word-none, adds-more, row-sum, bitAt-in, bits-le, row-room}
 
 -- ---- the four bits of a pixel
@@ -142,6 +142,21 @@ interior-differ t1 e1 t2 e2 base from w q r k j u2 k2 l n e a b =
     (kept-word e1 e2 base from w (q * 64 + r) k (getD e1 (base + k) 0) k2 (row-whole e1 base w k (omega (arith, n .here)))
     (λ i m x. raw-moved e2 from w q r k s j (j - 1) k2 l (omega arith) (omega arith) (omega arith) (omega arith) b i m (omega arith) (omega arith)))
     u2 (raw-moved t2 from w q r k s j (j - 1) u2 l (omega arith) (omega arith) (omega arith) (omega arith) a)
+
+-- the last word of a row moved by at most a word to the left: no pixel lies past it
+pub last-adds : (t1 e1 t2 e2 : List ℕ) (base from w q r k k2 u2 bits : ℕ) → r < 64 → (low : ℕ) → q + 1 ≡ biasWords → w ≤ (k + 1) * 64 → WordOf (rowBit e2 from w) k low
+    → Joined 0 low r k2 → Joined 0 (getD t2 (from + k) 0) r u2
+    → bits ≡ sum 64 (bit (bitAnd (bitXor (getD t1 (base + k) 0) u2) (bitAnd (getD e1 (base + k) 0) k2)))
+    → Adds (rowDiffer t1 e1 t2 e2 base from w (q * 64 + r)) k (k + 1) bits
+last-adds t1 e1 t2 e2 base from w q r k k2 u2 bits l low e n b f g =
+    let z : k ≡ k + 1 - 1 = omega arith in
+    differ-adds t1 e1 t2 e2 base from w (q * 64 + r) k (bitAnd (getD e1 (base + k) 0) k2)
+    (kept-right e1 e2 base from w (q * 64 + r) k k2 (omega arith)
+    (whole-moved e2 from w q r k (k + 1) 0 low k2 l (omega arith) (omega arith)
+    (λ i m. bit-zero i ∙ sym (row-past e2 from w ((k + 1) * 64 + i) (omega arith))) (subst (λ (j : ℕ). WordOf (rowBit e2 from w) j low) z b) f))
+    u2 bits
+    (λ i m o x. joined-moved t2 from w w q r k (k + 1) 0 (getD t2 (from + k) 0) u2 l (omega arith) (omega arith)
+    (λ j p y. absurd (omega arith)) (raw-word t2 from w (k + 1 - 1) (from + k) (omega arith)) g i m x)
 
 -- ---- rows and frames
 

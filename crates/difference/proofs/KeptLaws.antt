@@ -1,10 +1,11 @@
 -- Which pixels of two rows, the second of them moved, are kept.
-use mathlib.Core.Path.{_≡_, ap₂, _∙_}
+use mathlib.Core.Path.{_≡_, refl, ap₂, _∙_}
 use mathlib.Core.Logic.{⊎-elim}
 use mathlib.Core.List.{List}
 use Prim.Native.Nat.{ℕ, _+_, _*_, _-_, _≤_, _<_, min}
 use native.Mathlib.Omega.{arith}
 use lib.Dec.{leb}
+use lib.ListN.{getD}
 use lib.Bits.{bitAnd}
 use Rattle.rules.specs.Bitmaps.{bit}
 use Rattle.rules.proofs.SumLaws.{order, gate-small}
@@ -12,7 +13,7 @@ use Rattle.words.specs.Rows.{WordOf, rowBit, back, bias}
 use Rattle.words.specs.Moves.{movedBit}
 use Rattle.words.proofs.BitLaws.{bit-and}
 use Rattle.words.proofs.MoveLaws.{row-past, back-at, back-under}
-use Rattle.words.proofs.JoinLaws.{WordIn}
+use Rattle.words.proofs.JoinLaws.{WordIn, raw-word}
 use Rattle.popcount.proofs.AdderLaws.{Bit, number-case}
 use Rattle.popcount.proofs.RowLaws.{rowBit-lt}
 
@@ -48,13 +49,28 @@ module _ (e1 e2 : List ℕ) (base from w d x : ℕ) (e : keptBit e1 e2 base from
           let y = back-at (rowBit e2 from w) d (bias + x - d) (bias + x) (omega (arith, ⊎-elim before reached (order (bias + x) d))) in
           absurd (omega arith)
 
--- a word of both: the first frame's has no bits past w
-pub kept-word : (e1 e2 : List ℕ) (base from w d k k1 k2 : ℕ) → WordOf (rowBit e1 base w) k k1 → WordIn w (movedBit e2 from w d) k k2
-    → WordOf (keptBit e1 e2 base from w d) k (bitAnd k1 k2)
-kept-word e1 e2 base from w d k k1 k2 b e i l = bit-and k1 k2 i ∙ ⊎-elim inside past (order (k * 64 + i) w)
-  where
-    inside : k * 64 + i < w → min (bit k1 i) (bit k2 i) ≡ keptBit e1 e2 base from w d (k * 64 + i)
-    inside m = ap₂ (λ (s t : ℕ). min s t) (b i l) (e i l m)
+module _ (e1 e2 : List ℕ) (base from w d k k1 k2 : ℕ) where
+  kept-both : WordIn w (rowBit e1 base w) k k1 → WordIn w (movedBit e2 from w d) k k2
+      → ((i : ℕ) → i < 64 → w ≤ k * 64 + i → min (bit k1 i) (bit k2 i) ≡ 0) → WordOf (keptBit e1 e2 base from w d) k (bitAnd k1 k2)
+  kept-both b e p i l = bit-and k1 k2 i ∙ ⊎-elim inside past (order (k * 64 + i) w)
+    where
+      inside : k * 64 + i < w → min (bit k1 i) (bit k2 i) ≡ keptBit e1 e2 base from w d (k * 64 + i)
+      inside m = ap₂ (λ (s t : ℕ). min s t) (b i l m) (e i l m)
 
-    past : w ≤ k * 64 + i → min (bit k1 i) (bit k2 i) ≡ keptBit e1 e2 base from w d (k * 64 + i)
-    past m = let z = row-past e1 base w (k * 64 + i) m in let y = b i l in omega arith
+      past : w ≤ k * 64 + i → min (bit k1 i) (bit k2 i) ≡ keptBit e1 e2 base from w d (k * 64 + i)
+      past m = let z = row-past e1 base w (k * 64 + i) m in let y = p i l m in omega arith
+
+  -- the first frame's word has no bits past w
+  pub kept-word : WordOf (rowBit e1 base w) k k1 → WordIn w (movedBit e2 from w d) k k2 → WordOf (keptBit e1 e2 base from w d) k (bitAnd k1 k2)
+  kept-word b e = kept-both (λ i l m. b i l) e (λ i l m. let z = b i l ∙ row-past e1 base w (k * 64 + i) m in omega arith)
+
+-- the second frame's word has none either, and comes from the right
+pub kept-right : (e1 e2 : List ℕ) (base from w d k k2 : ℕ) → d ≤ bias → WordOf (movedBit e2 from w d) k k2
+    → WordOf (keptBit e1 e2 base from w d) k (bitAnd (getD e1 (base + k) 0) k2)
+unfolding movedBit
+kept-right e1 e2 base from w d k k2 n e =
+    kept-both e1 e2 base from w d k (getD e1 (base + k) 0) k2 (raw-word e1 base w k (base + k) refl) (λ i l m. e i l)
+    (λ i l m.
+    let x : ℕ = bias + (k * 64 + i) - d in
+    let y = e i l ∙ back-at (rowBit e2 from w) d x (bias + (k * 64 + i)) (omega arith) ∙ row-past e2 from w x (omega arith) in
+    omega arith)

@@ -1,9 +1,10 @@
 // The difference count of two frames' four lent bitmaps.
 
+pub mod edges;
 pub mod interior;
 pub mod rows;
 
-use popcount::table::BIT_COUNTS;
+use popcount::table::bit_counts;
 use refusals::difference_refusal;
 use rows::difference_frame;
 use rules::Counted;
@@ -34,7 +35,7 @@ pub fn difference(
     if number != 0 {
         return Counted::Refused(number);
     }
-    let table = BIT_COUNTS;
+    let table = bit_counts();
     Counted::Count(difference_frame(
         w,
         h,

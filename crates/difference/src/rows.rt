@@ -1,15 +1,13 @@
 // The difference count of two frames' packed bitmaps, row by row. The second frame's rows are moved
 // word by word on reading.
 
+use crate::edges::left_edge;
+use crate::edges::right_edge;
 use crate::interior::interior;
-use popcount::table::word_count;
 use words::BIAS;
-use words::BIAS_WORDS;
 use words::biased;
-use words::moved_word;
 use words::moves::Move;
 use words::moves::move_by;
-use words::row_word;
 ghost use mathlib.Core.Path.{_≡_};
 ghost use Prim.Native.Nat.{_+_, _*_, _<_, _≤_};
 ghost use Rattle.rules.specs.Limits.{maxSide, wordBits};
@@ -18,65 +16,7 @@ ghost use Rattle.rules.specs.Differences.{difference};
 ghost use Rattle.rules.specs.Calls.{planesOf};
 ghost use Rattle.words.specs.Moves.{Moves};
 ghost use Rattle.popcount.specs.Table.{CountsBits};
-ghost use Rattle.popcount.specs.Rows.{Adds};
 ghost use Rattle.difference.specs.Rows.{movedDiffer, lineDiffer, RowsIn, FramesIn};
-
-// One word near an edge of a row, where partners can lie outside and bits past w be in the way.
-fn edge_word(
-    t1: &[u64],
-    e1: &[u64],
-    t2: &[u64],
-    e2: &[u64],
-    base: usize,
-    from: usize,
-    m: Move,
-    k: usize,
-    table: &[u8; 256],
-) -> u32
-    requires moves { ⌜ Moves m ⌝ }
-    requires here { ⌜ k < m .n ⌝ }
-    requires rows { ⌜ RowsIn (now t1) (now e1) (now t2) (now e2) base from (m .w) ⌝ }
-    requires table { ⌜ CountsBits (now table) ⌝ }
-    ensures { λ r. ⌜ Adds (movedDiffer (now (t1 .entry)) (now (e1 .entry)) (now (t2 .entry)) (now (e2 .entry)) base from m) k (k + 1) r ⌝ }
-{
-    let at = k + BIAS_WORDS;
-    let kept = row_word(e1, base, m.w, k) & moved_word(e2, from, m.w, at, m.q, m.r);
-    if kept == 0 {
-        return 0;
-    }
-    word_count(
-        (t1[base + k] ^ moved_word(t2, from, m.w, at, m.q, m.r)) & kept,
-        table,
-    )
-}
-
-// The words of a row from `first` up to `end`, which need not be interior.
-fn edge_words(
-    t1: &[u64],
-    e1: &[u64],
-    t2: &[u64],
-    e2: &[u64],
-    base: usize,
-    from: usize,
-    m: Move,
-    first: usize,
-    end: usize,
-    table: &[u8; 256],
-) -> u32
-    requires moves { ⌜ Moves m ⌝ }
-    requires span { ⌜ (first ≤ end) × (end ≤ m .n) ⌝ }
-    requires rows { ⌜ RowsIn (now t1) (now e1) (now t2) (now e2) base from (m .w) ⌝ }
-    requires table { ⌜ CountsBits (now table) ⌝ }
-    ensures { λ r. ⌜ Adds (movedDiffer (now (t1 .entry)) (now (e1 .entry)) (now (t2 .entry)) (now (e2 .entry)) base from m) first end r ⌝ }
-{
-    let mut count: u32 = 0;
-    let mut k = first;
-    while k < end {
-        count += edge_word(t1, e1, t2, e2, base, from, m, k, table);
-        k += 1;
-    }
-    count
-}
 
 // The row at `base` against the moved row at `from`.
 fn row_difference(
@@ -94,9 +34,9 @@ fn row_difference(
     requires table { ⌜ CountsBits (now table) ⌝ }
     ensures { λ r. ⌜ r ≡ sum (m .w) (movedDiffer (now (t1 .entry)) (now (e1 .entry)) (now (t2 .entry)) (now (e2 .entry)) base from m) ⌝ }
 {
-    edge_words(t1, e1, t2, e2, base, from, m, 0, m.first, table)
+    left_edge(t1, e1, t2, e2, base, from, m, table)
         + interior(t1, e1, t2, e2, base, from, m, table)
-        + edge_words(t1, e1, t2, e2, base, from, m, m.end, m.n, table)
+        + right_edge(t1, e1, t2, e2, base, from, m, table)
 }
 
 // Row y of the frame. Its partner row is `up` rows back, counted from the bias; a row whose partner

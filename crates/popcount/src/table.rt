@@ -268,6 +268,13 @@ pub const BIT_COUNTS: [u8; 256] = [
     8,
 ];
 
+// The table, proved to be right.
+pub fn bit_counts() -> [u8; 256]
+    ensures { λ r. ⌜ CountsBits r ⌝ }
+{
+    BIT_COUNTS
+}
+
 // Of the lowest byte of a word.
 fn byte_count(v: u64, table: &[u8; 256]) -> u32
     requires { ⌜ CountsBits (now table) ⌝ }

@@ -2,7 +2,7 @@
 
 pub mod rows;
 
-use popcount::table::BIT_COUNTS;
+use popcount::table::bit_counts;
 use refusals::total_refusal;
 use rows::total_frame;
 use rules::Counted;
@@ -17,6 +17,6 @@ pub fn total(w: usize, h: usize, bitmap: &[u64]) -> Counted
     if number != 0 {
         return Counted::Refused(number);
     }
-    let table = BIT_COUNTS;
+    let table = bit_counts();
     Counted::Count(total_frame(w, h, bitmap, &table))
 }

@@ -36,7 +36,8 @@ add-count c =
       arith,
       s .pre .0,
       s .pre .1 .0 .short,
-      adds-next-le (run s) 0 (l .k) (l .k + 7) (l .count) (c .run-block .result) (runDiffer-lt (a .t1 .now) (a .e1 .now) (a .t2 .now) (a .e2 .now) (a .i) (a .x)) (l .inv .1 .1) (c .run-block .ensures),
+      adds-next-le (run s) 0 (l .k) (l .k + 7) (l .count) (c .run-block .result)
+          (runDiffer-lt (a .t1 .now) (a .e1 .now) (a .t2 .now) (a .e2 .now) (a .i) (a .x)) (l .inv .1 .1) (c .run-block .ensures),
     )
 
 add-k : tie.Need-add-k Inv-loop μ-loop

@@ -24,7 +24,8 @@ add-result c =
       arith,
       s .pre .0,
       row-words-le (a .m .w) (s .pre .0 .width),
-      adds-next-le f (a .m .first) (a .m .rest) (a .m .end) (b .result) (c .interior-rest .result) (movedDiffer-lt (a .t1 .now) (a .e1 .now) (a .t2 .now) (a .e2 .now) (a .base) (a .from) (a .m)) (b .ensures) (c .interior-rest .ensures),
+      adds-next-le f (a .m .first) (a .m .rest) (a .m .end) (b .result) (c .interior-rest .result)
+          (movedDiffer-lt (a .t1 .now) (a .e1 .now) (a .t2 .now) (a .e2 .now) (a .base) (a .from) (a .m)) (b .ensures) (c .interior-rest .ensures),
     )
 
 returns : tie.Need-returns

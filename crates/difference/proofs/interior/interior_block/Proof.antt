@@ -11,7 +11,8 @@ near : (c : tie.Start) → c .args .k + 7 ≤ 64
 near c = omega (arith, c .pre, row-words-le (c .args .m .w) (c .pre .0 .width))
 
 ready : (c : tie.Start) (k : ℕ) → c .args .k ≤ k → k < c .args .k + 7
-    → Moves (c .args .m) × (((c .args .m .first ≤ k) × (k < c .args .m .end)) × RowsIn (c .args .t1 .now) (c .args .e1 .now) (c .args .t2 .now) (c .args .e2 .now) (c .args .base) (c .args .from) (c .args .m .w))
+    → Moves (c .args .m)
+    × (((c .args .m .first ≤ k) × (k < c .args .m .end)) × RowsIn (c .args .t1 .now) (c .args .e1 .now) (c .args .t2 .now) (c .args .e2 .now) (c .args .base) (c .args .from) (c .args .m .w))
 ready c k l m = (c .pre .0, ((omega (arith, c .pre), omega (arith, c .pre)), c .pre .1 .1 .0))
 
 differing-word-requires : tie.Need-differing-word-requires

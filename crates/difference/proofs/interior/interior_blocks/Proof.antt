@@ -36,7 +36,8 @@ add-count c =
       arith,
       s,
       row-words-le (a .m .w) (s .pre .0 .width),
-      adds-next-le (row s) (s .args .m .first) (l .k) (l .k + 7) (l .count) (c .interior-block .result) (movedDiffer-lt (a .t1 .now) (a .e1 .now) (a .t2 .now) (a .e2 .now) (a .base) (a .from) (a .m)) (l .inv .1 .1 .1) (c .interior-block .ensures),
+      adds-next-le (row s) (s .args .m .first) (l .k) (l .k + 7) (l .count) (c .interior-block .result)
+          (movedDiffer-lt (a .t1 .now) (a .e1 .now) (a .t2 .now) (a .e2 .now) (a .base) (a .from) (a .m)) (l .inv .1 .1 .1) (c .interior-block .ensures),
     )
 
 add-k : tie.Need-add-k Inv-loop μ-loop

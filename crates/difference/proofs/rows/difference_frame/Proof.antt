@@ -52,7 +52,8 @@ add-count c =
     let d = m .result .q * 64 + m .result .r in
     let up = c .before .before .before .biased2 .result in
     let l = c .before .before .loop in
-    let small : (y : ℕ) → lineDiffer (a .t1 .now) (a .e1 .now) (a .t2 .now) (a .e2 .now) (m .result .w) (a .h) d up y ≤ 4096 = λ y. line-le (a .t1 .now) (a .e1 .now) (a .t2 .now) (a .e2 .now) (m .result .w) (a .h) d up y (m .ensures .1 .1 .width) in
+    let small : (y : ℕ) → lineDiffer (a .t1 .now) (a .e1 .now) (a .t2 .now) (a .e2 .now) (m .result .w) (a .h) d up y ≤ 4096 =
+    λ y. line-le (a .t1 .now) (a .e1 .now) (a .t2 .now) (a .e2 .now) (m .result .w) (a .h) d up y (m .ensures .1 .1 .width) in
     omega (arith, s .pre, rows-le (lineDiffer (a .t1 .now) (a .e1 .now) (a .t2 .now) (a .e2 .now) (m .result .w) (a .h) d up) (l .y) small, small (l .y))
 
 add-y : tie.Need-add-y Inv-loop μ-loop

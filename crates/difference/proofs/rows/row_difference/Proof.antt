@@ -11,10 +11,8 @@ use Rattle.difference.proofs.rows.row_difference.Tie as tie
 abbrev row : tie.Start → ℕ → ℕ
 row c = let a = c .args in movedDiffer (a .t1 .now) (a .e1 .now) (a .t2 .now) (a .e2 .now) (a .base) (a .from) (a .m)
 
-edge-words-requires : tie.Need-edge-words-requires
-edge-words-requires c κs =
-    let s = c .before .before .before .before in
-    (s .pre .0, ((omega arith, omega (arith, s .pre .0)), (s .pre .1 .0, s .pre .1 .1)))
+left-edge-requires : tie.Need-left-edge-requires
+left-edge-requires c κs = search needs
 
 interior-requires : tie.Need-interior-requires
 interior-requires c κs = search needs
@@ -23,29 +21,28 @@ add-result : tie.Need-add-result
 add-result c =
     let s = c .before .before .before .before .before .before in
     let a = s .args in
-    let x = c .before .edge-words in
+    let x = c .before .left-edge in
     omega (
       arith,
       row-words-le (a .m .w) (s .pre .0 .width),
       s .pre .0,
       adds-le (row s) 0 (a .m .end) (x .result + c .interior .result)
-          (movedDiffer-lt (a .t1 .now) (a .e1 .now) (a .t2 .now) (a .e2 .now) (a .base) (a .from) (a .m)) (adds-more (row s) 0 (a .m .first) (a .m .end) (x .result) (c .interior .result) (x .ensures) (c .interior .ensures)),
+          (movedDiffer-lt (a .t1 .now) (a .e1 .now) (a .t2 .now) (a .e2 .now) (a .base) (a .from) (a .m))
+          (adds-more (row s) 0 (a .m .first) (a .m .end) (x .result) (c .interior .result) (x .ensures) (c .interior .ensures)),
     )
 
-edge-words-requires-2 : tie.Need-edge-words-requires-2
-edge-words-requires-2 c κs =
-    let s = c .before .before .before .before .before .before in
-    (s .pre .0, ((s .pre .0 .ends, omega arith), (s .pre .1 .0, s .pre .1 .1)))
+right-edge-requires : tie.Need-right-edge-requires
+right-edge-requires c κs = search needs
 
 returns : tie.Need-returns
 returns c =
     let s = c .before .before .before .before .before .before .before in
     let a = s .args in
-    let x = c .before .before .edge-words in
+    let x = c .before .before .left-edge in
     let i = c .before .interior in
-    row-parts (row s) (a .m .w) (a .m .n) (a .m .first) (a .m .end) (x .result) (i .result) (c .edge-words2 .result) (s .pre .0 .row)
+    row-parts (row s) (a .m .w) (a .m .n) (a .m .first) (a .m .end) (x .result) (i .result) (c .right-edge .result) (s .pre .0 .row)
     (rowDiffer-past (a .t1 .now) (a .e1 .now) (a .t2 .now) (a .e2 .now) (a .base) (a .from) (a .m .w) (a .m .q * 64 + a .m .r))
-    (x .ensures) (i .ensures) (c .edge-words2 .ensures)
+    (x .ensures) (i .ensures) (c .right-edge .ensures)
 
 add-result-2 : tie.Need-add-result-2
 add-result-2 c =
@@ -57,9 +54,9 @@ pub row-difference-spec : {M : Type 1} → statement M
 row-difference-spec =
     tie.close
     (tie.spec
-    edge-words-requires
+    left-edge-requires
     interior-requires
     add-result
-    edge-words-requires-2
+    right-edge-requires
     add-result-2
     returns)

@@ -9,7 +9,8 @@ use Rattle.popcount.proofs.AdderLaws.{none-left}
 use Rattle.popcount.proofs.adder.seven_word_count.Statement.{statement}
 use Rattle.popcount.proofs.adder.seven_word_count.Tie as tie
 
-small : (c : tie.After-full-adder4) → (sum 64 (bit (c .before .full-adder3 .result .low)) ≤ 64) × ((sum 64 (bit (c .full-adder4 .result .low)) ≤ 64) × (sum 64 (bit (c .full-adder4 .result .carry)) ≤ 64))
+small : (c : tie.After-full-adder4)
+    → (sum 64 (bit (c .before .full-adder3 .result .low)) ≤ 64) × ((sum 64 (bit (c .full-adder4 .result .low)) ≤ 64) × (sum 64 (bit (c .full-adder4 .result .carry)) ≤ 64))
 small c = (word-le (c .before .full-adder3 .result .low), (word-le (c .full-adder4 .result .low), word-le (c .full-adder4 .result .carry)))
 
 full-adder-requires : tie.Need-full-adder-requires

@@ -21,7 +21,8 @@ so-far : (c : tie.At-loop Inv-loop μ-loop) → c .loop .count ≤ 4096
 so-far c =
     let s = c .before .before in
     let a = s .args in
-    omega (arith, s .pre, adds-le (rowBit (a .bitmap .now) (a .base) (a .last * 64 + a .rest)) 0 (c .loop .k) (c .loop .count) (rowBit-lt (a .bitmap .now) (a .base) (a .last * 64 + a .rest)) (c .loop .inv .1))
+    let w = a .last * 64 + a .rest in
+    omega (arith, s .pre, adds-le (rowBit (a .bitmap .now) (a .base) w) 0 (c .loop .k) (c .loop .count) (rowBit-lt (a .bitmap .now) (a .base) w) (c .loop .inv .1))
 
 loop-holds : tie.Need-loop-holds Inv-loop μ-loop
 loop-holds c = let a = c .before .args in (omega arith, adds-none (rowBit (a .bitmap .now) (a .base) (a .last * 64 + a .rest)) 0)

@@ -7,8 +7,8 @@ use Rattle.popcount.proofs.RowLaws.{row-words-le}
 use Rattle.words.proofs.JoinLaws.{moved-word}
 use Rattle.difference.proofs.KeptLaws.{kept-word}
 use Rattle.difference.proofs.DifferLaws.{none-adds, differ-adds}
-use Rattle.difference.proofs.rows.edge_word.Statement.{statement}
-use Rattle.difference.proofs.rows.edge_word.Tie as tie
+use Rattle.difference.proofs.edges.edge_word.Statement.{statement}
+use Rattle.difference.proofs.edges.edge_word.Tie as tie
 
 near : (c : tie.Start) → (c .args .k < 4294967296) × (c .args .k + 33554432 < 4294967296)
 near c = let n = row-words-le (c .args .m .w) (c .pre .0 .width) in (omega arith, omega arith)

@@ -7,8 +7,8 @@ use Rattle.popcount.specs.Rows.{Adds}
 use Rattle.difference.specs.Rows.{movedDiffer}
 use Rattle.popcount.proofs.RowLaws.{adds-none, adds-more, adds-next-le, row-words-le}
 use Rattle.difference.proofs.DifferLaws.{movedDiffer-lt}
-use Rattle.difference.proofs.rows.edge_words.Statement.{statement}
-use Rattle.difference.proofs.rows.edge_words.Tie as tie
+use Rattle.difference.proofs.edges.edge_words.Statement.{statement}
+use Rattle.difference.proofs.edges.edge_words.Tie as tie
 
 abbrev Inv-loop : tie.InvT-loop
 Inv-loop t1 e1 t2 e2 base from m first end table count₀ k₀ count k = (first ≤ k) × ((k ≤ end) × Adds (movedDiffer t1 e1 t2 e2 base from m) first k count)
@@ -36,7 +36,8 @@ add-count c =
       arith,
       s,
       row-words-le (a .m .w) (s .pre .0 .width),
-      adds-next-le (row s) (s .args .first) (l .k) (l .k + 1) (l .count) (c .edge-word .result) (movedDiffer-lt (a .t1 .now) (a .e1 .now) (a .t2 .now) (a .e2 .now) (a .base) (a .from) (a .m)) (l .inv .1 .1) (c .edge-word .ensures),
+      adds-next-le (row s) (s .args .first) (l .k) (l .k + 1) (l .count) (c .edge-word .result)
+          (movedDiffer-lt (a .t1 .now) (a .e1 .now) (a .t2 .now) (a .e2 .now) (a .base) (a .from) (a .m)) (l .inv .1 .1) (c .edge-word .ensures),
     )
 
 add-k : tie.Need-add-k Inv-loop μ-loop
