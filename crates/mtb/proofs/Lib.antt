@@ -1,3 +1,3 @@
 -- Laws of answers as C gets them.
-pub mod ToldLaws
+pub mod ValueLaws
 pub mod FitLaws

@@ -1,2 +1,2 @@
 -- What the C functions give.
-pub mod Told
+pub mod Values

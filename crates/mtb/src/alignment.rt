@@ -1,15 +1,16 @@
-// Alignment of pairs and series, and the work memory that it needs.
+// Alignment of pairs and series, and the work memory that it needs. A C function's number n stands for
+// the answer that a call gives: accepted where it is 0, else refused with it.
 
 ghost use mathlib.Core.Path.{_≡_};
-ghost use Rattle.rules.specs.Answers.{bufferAfter};
-ghost use Rattle.rules.specs.Calls.{pairNumber, pairResult, seriesNumber, settings};
+ghost use Rattle.rules.specs.Answers.{written, paired};
+ghost use Rattle.rules.specs.Levels.{wardOrder};
+ghost use Rattle.rules.specs.Calls.{toleranceSetup, PairCall, toleranceSettings, SeriesCall};
 ghost use Rattle.rules.specs.Refusals.{shapeRefusal, greyNeeded, wordsNeeded};
-ghost use Rattle.rules.specs.Series.{seriesAnswer};
-ghost use Rattle.mtb.specs.Told.{valueAfter};
+ghost use Rattle.mtb.specs.Values.{valueAfter, offset};
 use crate::answers::refusal_in;
-use align::pair;
 use align_refusals::level_pixels;
 use align_refusals::shape_refusal;
+use pair::pair;
 use refusals::row_words;
 use rules::Paired;
 use series::series;
@@ -29,11 +30,12 @@ pub extern "C" fn mtb_pair(
     grey: &mut [u8],
     words: &mut [u64],
 ) -> u32
-    ensures answer { λ n. ⌜ n ≡ pairNumber w h s tolerance percentile (now (first .entry)) (now (second .entry)) (now (counts .entry)) (now (grey .entry)) (now (words .entry)) ⌝ }
-    ensures dx { λ _. ⌜ now (dx .exit) ≡ valueAfter (pairNumber w h s tolerance percentile (now (first .entry)) (now (second .entry)) (now (counts .entry)) (now (grey .entry)) (now (words .entry))) (pairResult w h s tolerance percentile (now (first .entry)) (now (second .entry)) .offset .dx) (now (dx .entry)) ⌝ }
-    ensures dy { λ _. ⌜ now (dy .exit) ≡ valueAfter (pairNumber w h s tolerance percentile (now (first .entry)) (now (second .entry)) (now (counts .entry)) (now (grey .entry)) (now (words .entry))) (pairResult w h s tolerance percentile (now (first .entry)) (now (second .entry)) .offset .dy) (now (dy .entry)) ⌝ }
-    ensures counts { λ _. ⌜ now (counts .exit) ≡ bufferAfter (pairNumber w h s tolerance percentile (now (first .entry)) (now (second .entry)) (now (counts .entry)) (now (grey .entry)) (now (words .entry))) (pairResult w h s tolerance percentile (now (first .entry)) (now (second .entry)) .counts) (now (counts .entry)) ⌝ }
-    ensures memory { λ _. ⌜ ((pairNumber w h s tolerance percentile (now (first .entry)) (now (second .entry)) (now (counts .entry)) (now (grey .entry)) (now (words .entry)) ≡ 0 → ⊥) → (now (grey .exit) ≡ now (grey .entry)) × (now (words .exit) ≡ now (words .entry))) ⌝ }
+    ensures call { λ n. ⌜
+        PairCall wardOrder (toleranceSetup w h s tolerance percentile) (now (first .entry)) (now (second .entry))
+        (now (counts .entry)) (now (counts .exit)) (now (grey .entry)) (now (grey .exit)) (now (words .entry)) (now (words .exit))
+        (paired n (offset (now (dx .exit)) (now (dy .exit))))
+        ⌝ }
+    ensures refused { λ n. ⌜ ((n ≡ 0 → ⊥) → (now (dx .exit) ≡ now (dx .entry)) × (now (dy .exit) ≡ now (dy .entry))) ⌝ }
 {
     match pair(
         w as usize,
@@ -73,10 +75,11 @@ pub extern "C" fn mtb_series(
     grey: &mut [u8],
     words: &mut [u64],
 ) -> u32
-    ensures answer { λ k. ⌜ k ≡ seriesNumber w h s tolerance n r (now (percentiles .entry)) (now (rasters .entry)) (now (offsets .entry)) (now (counts .entry)) (now (grey .entry)) (now (words .entry)) ⌝ }
-    ensures offsets { λ _. ⌜ now (offsets .exit) ≡ bufferAfter (seriesNumber w h s tolerance n r (now (percentiles .entry)) (now (rasters .entry)) (now (offsets .entry)) (now (counts .entry)) (now (grey .entry)) (now (words .entry))) (seriesAnswer (settings w h s tolerance n r (now (percentiles .entry))) (now (rasters .entry)) .offsets) (now (offsets .entry)) ⌝ }
-    ensures counts { λ _. ⌜ now (counts .exit) ≡ bufferAfter (seriesNumber w h s tolerance n r (now (percentiles .entry)) (now (rasters .entry)) (now (offsets .entry)) (now (counts .entry)) (now (grey .entry)) (now (words .entry))) (seriesAnswer (settings w h s tolerance n r (now (percentiles .entry))) (now (rasters .entry)) .counts) (now (counts .entry)) ⌝ }
-    ensures memory { λ _. ⌜ ((seriesNumber w h s tolerance n r (now (percentiles .entry)) (now (rasters .entry)) (now (offsets .entry)) (now (counts .entry)) (now (grey .entry)) (now (words .entry)) ≡ 0 → ⊥) → (now (grey .exit) ≡ now (grey .entry)) × (now (words .exit) ≡ now (words .entry))) ⌝ }
+    ensures { λ k. ⌜
+        SeriesCall wardOrder (toleranceSettings w h s tolerance n r (now (percentiles .entry))) (now (rasters .entry))
+        (now (offsets .entry)) (now (offsets .exit)) (now (counts .entry)) (now (counts .exit))
+        (now (grey .entry)) (now (grey .exit)) (now (words .entry)) (now (words .exit)) (written k)
+        ⌝ }
 {
     refusal_in(series(
         w as usize,

@@ -1,7 +1,7 @@
 // Answers as C gets them.
 
 ghost use mathlib.Core.Path.{_≡_};
-ghost use Rattle.mtb.specs.Told.{refusalIn};
+ghost use Rattle.mtb.specs.Values.{refusalIn};
 use rules::Written;
 
 // The refusal number of an answer, 0 when the call was accepted.

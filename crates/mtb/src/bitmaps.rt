@@ -7,7 +7,7 @@ ghost use Rattle.rules.specs.Planes.{total};
 ghost use Rattle.rules.specs.Differences.{difference};
 ghost use Rattle.rules.specs.Refusals.{shiftRefusal, totalRefusal, differenceRefusal};
 ghost use Rattle.rules.specs.Calls.{bitmapsNumber, thresholdsOut, exclusionsOut, shiftOut, planesOf};
-ghost use Rattle.mtb.specs.Told.{valueAfter};
+ghost use Rattle.mtb.specs.Values.{valueAfter};
 use crate::answers::refusal_in;
 use rules::Counted;
 

@@ -4,7 +4,7 @@ ghost use mathlib.Core.Path.{_≡_};
 ghost use lib.ListN.{length};
 ghost use Rattle.ppm_read.specs.P6.{headerOf, p6Refusal, sizeIn, startIn, rasterOf};
 ghost use Rattle.ppm_write.specs.P6Writes.{p6File, writeRefusal, writeOut};
-ghost use Rattle.mtb.specs.Told.{valueAfter};
+ghost use Rattle.mtb.specs.Values.{valueAfter};
 use ppm_read::Held;
 use ppm_read::p6_raster;
 use ppm_read::p6_size;

@@ -6,7 +6,7 @@ ghost use Rattle.rules.specs.Refusals.{greyRefusal, halveRefusal, thresholdRefu
 ghost use Rattle.rules.specs.Frames.{frameOf};
 ghost use Rattle.rules.specs.Thresholds.{threshold};
 ghost use Rattle.rules.specs.Calls.{greyOut, halveOut};
-ghost use Rattle.mtb.specs.Told.{valueAfter};
+ghost use Rattle.mtb.specs.Values.{valueAfter};
 use crate::answers::refusal_in;
 use grey::to_grey;
 use halve::halve;

@@ -5,7 +5,7 @@ ghost use lib.ListN.{length};
 ghost use Rattle.area.specs.Common.{areaRefusal, commonArea};
 ghost use Rattle.moved.specs.Moved.{movedRefusal, movedOut};
 ghost use Rattle.blink.specs.Blink.{blinkRefusal, rowStart, blinkRow};
-ghost use Rattle.mtb.specs.Told.{valueAfter};
+ghost use Rattle.mtb.specs.Values.{valueAfter};
 use crate::answers::refusal_in;
 use area::Common;
 use area::common_area;

@@ -11,8 +11,8 @@ use Rattle.rules.specs.declared.Offset.{Offset}
 use Rattle.rules.specs.declared.Paired.{Paired}
 use Rattle.rules.specs.Frames.{writtenOver}
 use Rattle.rules.specs.Answers.{paired, bufferAfter}
-use Rattle.rules.specs.Levels.{Aligned}
-use Rattle.rules.specs.Refusals.{_orElse_, pairRefusal}
+use Rattle.rules.specs.Levels.{wardOrder, byTolerance, Aligned}
+use Rattle.rules.specs.Refusals.{_orElse_, toleranceRefusal, pairRefusal}
 use Rattle.rules.specs.Calls.{pairResult}
 use Rattle.rules.specs.Accepted.{PairOk}
 use Rattle.rules.proofs.AlignmentLaws.{pair-ok}
@@ -22,7 +22,8 @@ use Rattle.ppm_read.specs.declared.Held.{Held}
 use Rattle.ppm_read.specs.P6.{headerOf, sizeIn, p6Refusal, rasterOf, held, sizeAnswer}
 use Rattle.report.specs.declared.Settings.{Settings}
 use Rattle.report.specs.SettingsLine.{settingsOf}
-use Rattle.report.specs.Output.{settingsText, refusedText, offsetText, levelsText, alignedText, countsLent, greyLent, wordsLent, secondRaster, bracketRefusal, answerText, filesText, asRead, outputBy, bracketOutput}
+use Rattle.report.specs.Output.{settingsText, refusedText, offsetText, levelsText, alignedText, countsLent, greyLent, wordsLent}
+use Rattle.report.specs.Output.{secondRaster, wardResult, bracketRefusal, answerText, filesText, asRead, outputBy, bracketOutput}
 use Rattle.report.specs.PairTexts.{pairText, rasterOfSize}
 use Rattle.report.proofs.TextLaws.{levels-enough}
 
@@ -57,10 +58,10 @@ past-both a b rest text e f = rw (e, f)
 -- The pair call's answer as text.
 module _ (size : Size) (s tolerance percentile : ℕ) (first second : List ℕ) where
   abbrev pub number : ℕ
-  number = pairRefusal (size .w) (size .h) s tolerance percentile (length first) (length second) countsLent greyLent wordsLent
+  number = pairRefusal (size .w) (size .h) s (toleranceRefusal tolerance) percentile (length first) (length second) countsLent greyLent wordsLent
 
   abbrev pub result : Aligned
-  result = pairResult (size .w) (size .h) s tolerance percentile first second
+  result = wardResult size s tolerance percentile first second
 
   pub pair-refused-text : (n : ℕ) → paired number (result .offset) ≡ Paired.Refused n → pairText size s tolerance percentile first second ≡ refusedText n
   unfolding pairText
@@ -72,13 +73,15 @@ module _ (size : Size) (s tolerance percentile : ℕ) (first second : List ℕ) 
     accepted = pair-moved number (result .offset) m e
 
     pub halvings : s ≤ 8
-    halvings = pair-ok (size .w) (size .h) s tolerance percentile (length first) (length second) countsLent greyLent wordsLent (accepted .0) .shape .halvings
+    halvings = pair-ok (size .w) (size .h) s (toleranceRefusal tolerance) percentile (length first) (length second) countsLent greyLent wordsLent (accepted .0) .shape .halvings
 
     pub pair-moved-text : (before after : List ℕ) → after ≡ bufferAfter number (result .counts) before
         → pairText size s tolerance percentile first second ≡ offsetText (m .dx) (m .dy) ++ levelsText s after
     unfolding pairText answerText pairResult
     pair-moved-text before after d =
-        let counts : levelsText s after ≡ levelsText s (result .counts) = rw (d, accepted .0) (levels-enough s (result .counts) (drop (length (result .counts)) before) (counts-length percentile tolerance s (size .w) (size .h) _ _)) in
+        let size-is = counts-length wardOrder (byTolerance tolerance) percentile s (size .w) (size .h) _ _ in
+        let counts : levelsText s after ≡ levelsText s (result .counts) =
+        rw (d, accepted .0) (levels-enough s (result .counts) (drop (length (result .counts)) before) size-is) in
         rw (accepted .0, accepted .1, counts)
 
 -- The two files, one after the other.
@@ -108,8 +111,8 @@ module _ (s tolerance percentile : ℕ) (first second : List ℕ) where
       unfolding rasterOfSize
       kept z = tested (eqb (one .w) (two .w) && eqb (one .h) (two .h)) (k .exact2)
         where
-          k : PairOk (one .w) (one .h) s tolerance percentile (length (rasterOf first)) (length (rasterOfSize one two second)) countsLent greyLent wordsLent
-          k = pair-ok (one .w) (one .h) s tolerance percentile (length (rasterOf first)) (length (rasterOfSize one two second)) countsLent greyLent wordsLent z
+          k : PairOk (one .w) (one .h) s percentile (length (rasterOf first)) (length (rasterOfSize one two second)) countsLent greyLent wordsLent
+          k = pair-ok (one .w) (one .h) s (toleranceRefusal tolerance) percentile (length (rasterOf first)) (length (rasterOfSize one two second)) countsLent greyLent wordsLent z
 
           tested : (t : Bool) → length (cond t (rasterOf second) []) ≡ 3 * (one .w * one .h) → rasterOf second ≡ cond t (rasterOf second) []
           tested true d = refl

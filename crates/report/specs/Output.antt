@@ -6,10 +6,11 @@ use lib.Dec.{eqb, leb}
 use lib.IntN.{ℤ, pos, negsuc}
 use lib.ListN.{length, take, drop}
 use Rattle.text.specs.Digits.{digits}
-use Rattle.rules.specs.Levels.{Aligned}
-use Rattle.rules.specs.Refusals.{_orElse_, countsLength, pairRefusal}
+use Rattle.rules.specs.Levels.{wardOrder, Aligned}
+use Rattle.rules.specs.Refusals.{_orElse_, countsLength, toleranceRefusal, pairRefusal}
 use Rattle.rules.specs.Limits.{maxHalvings}
-use Rattle.rules.specs.Calls.{pairResult}
+use Rattle.rules.specs.Calls.{toleranceSetup, pairResult}
+use Rattle.ppm_read.specs.declared.Size.{Size}
 use Rattle.ppm_read.specs.P6.{headerOf, sizeIn, p6Refusal, rasterOf}
 use Rattle.report.specs.declared.Settings.{Settings}
 use Rattle.report.specs.SettingsLine.{settingsOf}
@@ -81,7 +82,7 @@ unfoldable pub bracketRefusal : ℕ → ℕ → ℕ → List ℕ → List ℕ �
 bracketRefusal s tolerance percentile first second =
     p6Refusal first
     orElse p6Refusal second
-    orElse pairRefusal (sizeIn (headerOf first) .w) (sizeIn (headerOf first) .h) s tolerance percentile
+    orElse pairRefusal (sizeIn (headerOf first) .w) (sizeIn (headerOf first) .h) s (toleranceRefusal tolerance) percentile
     (length (rasterOf first)) (length (secondRaster first second)) countsLent greyLent wordsLent
 
 -- the text for a refusal number, or where there is none
@@ -89,10 +90,14 @@ unfoldable pub answerText : ℕ → List ℕ → List ℕ
 answerText zero text = text
 answerText (suc n) text = refusedText (suc n)
 
+-- the pair call's result, in Ward's order
+abbrev pub wardResult : Size → ℕ → ℕ → ℕ → List ℕ → List ℕ → Aligned
+wardResult size s tolerance percentile first second = pairResult wardOrder (toleranceSetup (size .w) (size .h) s tolerance percentile) first second
+
 unfoldable pub filesText : ℕ → ℕ → ℕ → List ℕ → List ℕ → List ℕ
 filesText s tolerance percentile first second =
     answerText (bracketRefusal s tolerance percentile first second) (alignedText s
-    (pairResult (sizeIn (headerOf first) .w) (sizeIn (headerOf first) .h) s tolerance percentile (rasterOf first) (rasterOf second)))
+    (wardResult (sizeIn (headerOf first)) s tolerance percentile (rasterOf first) (rasterOf second)))
 
 -- `settings` "before any file is tested"
 unfoldable pub outputBy : Settings → List ℕ → List ℕ → List ℕ

@@ -4,16 +4,15 @@ use mathlib.Core.List.{List, []}
 use Prim.Native.Nat.{ℕ}
 use lib.Dec.{eqb}
 use lib.ListN.{length}
-use Rattle.rules.specs.Refusals.{pairRefusal}
-use Rattle.rules.specs.Calls.{pairResult}
+use Rattle.rules.specs.Refusals.{toleranceRefusal, pairRefusal}
 use Rattle.ppm_read.specs.declared.Size.{Size}
 use Rattle.ppm_read.specs.P6.{rasterOf}
-use Rattle.report.specs.Output.{alignedText, countsLent, greyLent, wordsLent, answerText}
+use Rattle.report.specs.Output.{alignedText, countsLent, greyLent, wordsLent, answerText, wardResult}
 
 unfoldable pub pairText : Size → ℕ → ℕ → ℕ → List ℕ → List ℕ → List ℕ
 pairText size s tolerance percentile first second =
-    answerText (pairRefusal (size .w) (size .h) s tolerance percentile (length first) (length second) countsLent greyLent wordsLent)
-    (alignedText s (pairResult (size .w) (size .h) s tolerance percentile first second))
+    answerText (pairRefusal (size .w) (size .h) s (toleranceRefusal tolerance) percentile (length first) (length second) countsLent greyLent wordsLent)
+    (alignedText s (wardResult size s tolerance percentile first second))
 
 -- the second file's raster, if its frame has the first one's size
 unfoldable pub rasterOfSize : Size → Size → List ℕ → List ℕ

@@ -58,7 +58,7 @@ fn put_pair(
     ensures { λ r. ⌜ Wrote 0 (pairText size s tolerance percentile (now (first .entry)) (now (second .entry))) (now (out .entry)) r (now (out .exit)) ⌝ }
 {
     let mut counts = [0u32; MAX_COUNTS];
-    let answer = align::pair(
+    let answer = pair::pair(
         size.w,
         size.h,
         s,

@@ -1,9 +1,12 @@
--- An accepted call's offset is told; a refused one's number is, and the pointers' places are left. The buffers are the offered call's.
-use mathlib.Core.Path.{sym, ap, _∙_}
+-- An accepted call's offset stands behind the pointers; a refused one leaves them. The buffers are the offered call's.
+use mathlib.Core.Path.{refl, sym, ap₂, _∙_}
+use lib.IntN.{ℤ}
 use mir.Facts.{toZ-ofZ}
 use borrow.Author.Needs.{needs}
-use Rattle.rules.specs.declared.Offset.{Offset}
-use Rattle.mtb.proofs.ToldLaws.{paired-moved, paired-refused, told-accepted, told-refused}
+use Rattle.rules.specs.declared.Paired.{Paired}
+use Rattle.rules.proofs.AlignmentLaws.{paired-refused as refused-is}
+use Rattle.mtb.specs.Values.{offset}
+use Rattle.mtb.proofs.ValueLaws.{paired-refused, pair-left}
 use Rattle.mtb.proofs.alignment.mtb_pair.Statement.{statement}
 use Rattle.mtb.proofs.alignment.mtb_pair.Tie as tie
 
@@ -28,15 +31,10 @@ same-length-3 c = search needs
 returns : tie.Need-returns
 returns c =
     let call = c .before .before .before .before .before .before .before .before .before .before .before .pair in
-    let m = paired-moved _ _ _ (sym (c .before .before .before .offset .given .1) ∙ call .ensures .0) in (
-      m .0,
-      (
-        toZ-ofZ (record { sfits = c .before .struct-told .given .0 .1 }) ∙ told-accepted _ _ _ _ (m .0) (ap (λ (o : Offset). o .dx) (m .1)),
-        (
-          toZ-ofZ (record { sfits = c .struct-told2 .given .1 .0 .1 }) ∙ told-accepted _ _ _ _ (m .0) (ap (λ (o : Offset). o .dy) (m .1)),
-          call .ensures .1,
-        ),
-      ),
+    let x = toZ-ofZ (record { sfits = c .before .struct-told .given .0 .1 }) in
+    let y = toZ-ofZ (record { sfits = c .struct-told2 .given .1 .0 .1 }) in (
+      pair-left _ _ _ _ _ _ _ _ _ _ (c .before .before .before .offset .given .1 ∙ ap₂ (λ (a b : ℤ). Paired.Moved (offset a b)) (sym x) (sym y)) (call .ensures),
+      λ f. absurd (f refl),
     )
 
 same-length-4 : tie.Need-same-length-4
@@ -51,8 +49,9 @@ same-length-6 c = search needs
 returns-2 : tie.Need-returns-2
 returns-2 c =
     let call = c .before .before .before .before .before .before .before .before .before .pair in
-    let m = paired-refused _ _ _ (sym (c .before .n .given .1) ∙ call .ensures .0) in
-    (m .0, (told-refused _ _ _ _ (m .0) (m .1), (told-refused _ _ _ _ (m .0) (m .1), call .ensures .1)))
+    let given = c .before .n .given .1 in
+    let m = paired-refused _ _ _ (sym given ∙ call .ensures .answered) in
+    (pair-left _ _ _ _ _ _ _ _ _ _ (given ∙ refused-is _ _ (m .1)) (call .ensures), λ f. (refl, refl))
 
 pub mtb-pair-spec : {M : Type 1} → statement M
 mtb-pair-spec =

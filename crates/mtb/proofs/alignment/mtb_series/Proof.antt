@@ -1,6 +1,8 @@
 -- The offered call's own contract; its answer is told as a number.
+use mathlib.Core.Path.{sym, ap, _∙_}
+use Rattle.rules.specs.Answers.{written}
 use borrow.Author.Needs.{needs}
-use Rattle.mtb.proofs.ToldLaws.{written-told}
+use Rattle.mtb.proofs.ValueLaws.{written-number, series-left}
 use Rattle.mtb.proofs.alignment.mtb_series.Statement.{statement}
 use Rattle.mtb.proofs.alignment.mtb_series.Tie as tie
 
@@ -25,7 +27,8 @@ same-length-4 c = search needs
 returns : tie.Need-returns
 returns c =
     let call = c .before .before .before .before .before .before .before .before .series in
-    (written-told _ _ _ (c .refusal-in .ensures) (call .ensures .0), (call .ensures .1 .0, (call .ensures .1 .1 .0, call .ensures .1 .1 .1)))
+    let e = call .ensures .answered in
+    series-left _ _ _ _ _ _ _ _ _ _ _ _ (e ∙ ap written (sym (written-number _ _ _ (c .refusal-in .ensures) e))) (call .ensures)
 
 pub mtb-series-spec : {M : Type 1} → statement M
 mtb-series-spec =

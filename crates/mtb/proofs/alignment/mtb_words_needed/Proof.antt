@@ -5,7 +5,7 @@ use native.Mathlib.Omega.{arith}
 use borrow.Author.Needs.{needs}
 use Rattle.rules.specs.Accepted.{ShapeOk}
 use Rattle.rules.proofs.AlignmentLaws.{shape-ok}
-use Rattle.mtb.proofs.ToldLaws.{told-accepted, told-refused}
+use Rattle.mtb.proofs.ValueLaws.{value-accepted, value-refused}
 use Rattle.mtb.proofs.alignment.mtb_words_needed.Statement.{statement}
 use Rattle.mtb.proofs.alignment.mtb_words_needed.Tie as tie
 
@@ -13,7 +13,7 @@ shape-refusal-requires : tie.Need-shape-refusal-requires
 shape-refusal-requires c κs = search needs
 
 returns : tie.Need-returns
-returns c = told-refused _ _ _ _ (c .before .shape-refusal .ensures) (c .if1 .taken)
+returns c = value-refused _ _ _ _ (c .before .shape-refusal .ensures) (c .if1 .taken)
 
 row-words-requires : tie.Need-row-words-requires
 row-words-requires c κs = search needs
@@ -30,7 +30,7 @@ mul-result-2 c = rw (c .row-words .ensures) (omega (arith, accepted (c .before) 
 returns-2 : tie.Need-returns-2
 returns-2 c =
     let a = c .before .before .before .args in
-    told-accepted _ _ _ _ (sym (c .before .if1 .left) ∙ c .before .before .shape-refusal .ensures) (ap (λ (n : ℕ). 6 * (n * a .h)) (c .row-words .ensures))
+    value-accepted _ _ _ _ (sym (c .before .if1 .left) ∙ c .before .before .shape-refusal .ensures) (ap (λ (n : ℕ). 6 * (n * a .h)) (c .row-words .ensures))
 
 pub mtb-words-needed-spec : {M : Type 1} → statement M
 mtb-words-needed-spec =

@@ -3,7 +3,7 @@ use mathlib.Core.Path.{_∙_}
 use mir.Facts.{toZ-ofZ}
 use borrow.Author.Needs.{needs}
 use Rattle.rules.specs.Calls.{shiftOut}
-use Rattle.mtb.proofs.ToldLaws.{written-told}
+use Rattle.mtb.proofs.ValueLaws.{written-number}
 use Rattle.mtb.proofs.bitmaps.mtb_shift.Statement.{statement}
 use Rattle.mtb.proofs.bitmaps.mtb_shift.Tie as tie
 
@@ -21,7 +21,7 @@ returns c =
     let s = c .before .before .before .before .before .before .before in
     let a = s .args in
     let call = c .before .before .before .shift in (
-      written-told _ _ _ (c .refusal-in .ensures) (call .ensures .0),
+      written-number _ _ _ (c .refusal-in .ensures) (call .ensures .0),
       call .ensures .1
           ∙ (λ i. shiftOut (a .w) (a .h) (toZ-ofZ (s .fits .dx) i) (toZ-ofZ (s .fits .dy) i) (a .bitmap .now) (a .out .now)),
     )

@@ -3,7 +3,7 @@ use mathlib.Core.Path.{_∙_}
 use mir.Facts.{toZ-ofZ}
 use borrow.Author.Needs.{needs}
 use Rattle.moved.specs.Moved.{movedOut}
-use Rattle.mtb.proofs.ToldLaws.{written-told}
+use Rattle.mtb.proofs.ValueLaws.{written-number}
 use Rattle.mtb.proofs.views.mtb_moved.Statement.{statement}
 use Rattle.mtb.proofs.views.mtb_moved.Tie as tie
 
@@ -21,7 +21,7 @@ returns c =
     let s = c .before .before .before .before .before .before .before in
     let a = s .args in
     let call = c .before .before .before .moved in (
-      written-told _ _ _ (c .refusal-in .ensures) (call .ensures .0),
+      written-number _ _ _ (c .refusal-in .ensures) (call .ensures .0),
       call .ensures .1
           ∙ (λ i. movedOut (a .w) (a .h) (toZ-ofZ (s .fits .dx) i) (toZ-ofZ (s .fits .dy) i) (a .raster .now) (a .out .now)),
     )

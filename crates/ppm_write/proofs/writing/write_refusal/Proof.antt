@@ -4,7 +4,7 @@ use Rattle.text.proofs.DigitLaws.{digits-at-most-ten}
 use Rattle.rules.specs.Accepted.{SizeOk}
 use Rattle.rules.proofs.RefusalLaws.{orElse-none, size-known}
 use Rattle.ppm_write.specs.P6Writes.{writeRefusal}
-use Rattle.ppm_write.proofs.WriteLaws.{length-header}
+use Rattle.ppm_write.proofs.P6WriteLaws.{length-header}
 use native.Mathlib.Omega.{arith}
 use borrow.Author.Needs.{needs}
 use Rattle.ppm_write.proofs.writing.write_refusal.Statement.{statement}

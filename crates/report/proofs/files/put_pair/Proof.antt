@@ -19,13 +19,18 @@ grey-length c = c .before .before .pair-arg .given .0 .1
 words-length : (c : tie.After-pair) → length (start c .args .words .now) ≡ 8192
 words-length c = c .before .pair-arg2 .given .0 .1
 
-answered : (c : tie.After-pair) → (let a = start c .args in
-    paired (number (a .size) (a .s) (a .tolerance) (a .percentile) (a .first .now) (a .second .now)) (result (a .size) (a .s) (a .tolerance) (a .percentile) (a .first .now) (a .second .now) .offset) ≡ c .pair .result)
-answered c = sym (rw (grey-length c, words-length c) at (c .pair .ensures .0))
+-- the answer as its definition has it
+abbrev expected : tie.Start → Paired
+expected s =
+    let a = s .args in
+    paired (number (a .size) (a .s) (a .tolerance) (a .percentile) (a .first .now) (a .second .now))
+    (result (a .size) (a .s) (a .tolerance) (a .percentile) (a .first .now) (a .second .now) .offset)
+
+answered : (c : tie.After-pair) → expected (start c) ≡ c .pair .result
+answered c = sym (rw (grey-length c, words-length c) at (c .pair .ensures .answered))
 
 -- the answer of an accepted pair
-moved : (c : tie.After-answer2) → (let a = start (c .before .before .before) .args in
-    paired (number (a .size) (a .s) (a .tolerance) (a .percentile) (a .first .now) (a .second .now)) (result (a .size) (a .s) (a .tolerance) (a .percentile) (a .first .now) (a .second .now) .offset) ≡ Paired.Moved (c .answer2 .given .0 .0))
+moved : (c : tie.After-answer2) → expected (start (c .before .before .before)) ≡ Paired.Moved (c .answer2 .given .0 .0)
 moved c = answered (c .before .before .before) ∙ c .answer2 .given .1
 
 slice-aggregate-pair : tie.Need-slice-aggregate-pair
@@ -65,7 +70,7 @@ returns-2 c =
     let b = c .before .before .before .before in
     let p = b .before .before .before in
     let a = start p .args in
-    let d = rw (grey-length p, words-length p) at (p .pair .ensures .1 .0) in
+    let d = rw (grey-length p, words-length p) at (p .pair .ensures .countsAre) in
     rw (pair-moved-text (a .size) (a .s) (a .tolerance) (a .percentile) (a .first .now) (a .second .now) _ (moved b) _ _ d)
     (c .put-aligned .ensures)
 

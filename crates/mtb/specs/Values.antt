@@ -1,6 +1,8 @@
 -- A call's answer as C gets it: a refusal number, and values through pointers.
 use Prim.Native.Nat.{ℕ, zero, suc}
+use lib.IntN.{ℤ}
 use Rattle.rules.specs.declared.Written.{Written}
+use Rattle.rules.specs.declared.Offset.{Offset}
 
 -- what a pointer's place holds after a call with this refusal number: the value, or what it held
 abbrev pub valueAfter : {A : Type 0} → ℕ → A → A → A
@@ -11,3 +13,7 @@ valueAfter (suc n) value before = before
 abbrev pub refusalIn : Written → ℕ
 refusalIn Written.Done = 0
 refusalIn (Written.Refused n) = n
+
+-- an offset from its two numbers
+abbrev pub offset : ℤ → ℤ → Offset
+offset dx dy = record { dx = dx; dy = dy }

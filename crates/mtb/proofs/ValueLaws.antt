@@ -1,13 +1,18 @@
 -- What C is told of a call. An answer made from a refusal number k and a value tells them back: accepted only where k is 0, else refused with k.
-use mathlib.Core.Path.{_≡_, refl, ap, _∙_}
+use mathlib.Core.Path.{_≡_, refl, ap, subst, _∙_}
+use mathlib.Core.List.{List}
 use Prim.Native.Nat.{ℕ, zero, suc}
 use native.Mathlib.Omega.{arith}
+use lib.IntN.{ℤ}
 use Rattle.rules.specs.declared.Written.{Written}
 use Rattle.rules.specs.declared.Counted.{Counted}
 use Rattle.rules.specs.declared.Thresholded.{Thresholded}
 use Rattle.rules.specs.declared.Offset.{Offset}
 use Rattle.rules.specs.declared.Paired.{Paired}
 use Rattle.rules.specs.Answers.{written, counted, thresholded, paired}
+use Rattle.rules.specs.Levels.{Aligned}
+use Rattle.rules.specs.Series.{Answer}
+use Rattle.rules.specs.Calls.{PairLeft, SeriesLeft}
 use Rattle.ppm_read.specs.declared.Size.{Size}
 use Rattle.ppm_read.specs.declared.Held.{Held}
 use Rattle.ppm_write.specs.declared.Stored.{Stored}
@@ -18,23 +23,23 @@ use Rattle.area.specs.declared.Common.{Common}
 use Rattle.area.specs.Common.{common}
 use Rattle.blink.specs.declared.Row.{Row}
 use Rattle.blink.specs.Blink.{rowAt}
-use Rattle.mtb.specs.Told.{valueAfter, refusalIn}
+use Rattle.mtb.specs.Values.{valueAfter, refusalIn}
 
 -- A pointer's place after an accepted call, and after a refused one.
-pub told-accepted : {A : Type 0} (k : ℕ) (value x before : A) → 0 ≡ k → x ≡ value → x ≡ valueAfter k value before
-told-accepted zero value x before z e = e
-told-accepted (suc k) value x before z e = absurd (omega arith)
+pub value-accepted : {A : Type 0} (k : ℕ) (value x before : A) → 0 ≡ k → x ≡ value → x ≡ valueAfter k value before
+value-accepted zero value x before z e = e
+value-accepted (suc k) value x before z e = absurd (omega arith)
 
-pub told-refused : {A : Type 0} (k n : ℕ) (value before : A) → n ≡ k → (n ≡ 0 → ⊥) → before ≡ valueAfter k value before
-told-refused zero n value before e l = absurd (l e)
-told-refused (suc k) n value before e l = refl
+pub value-refused : {A : Type 0} (k n : ℕ) (value before : A) → n ≡ k → (n ≡ 0 → ⊥) → before ≡ valueAfter k value before
+value-refused zero n value before e l = absurd (l e)
+value-refused (suc k) n value before e l = refl
 
 in-written : (k : ℕ) → refusalIn (written k) ≡ k
 in-written zero = refl
 in-written (suc k) = refl
 
-pub written-told : (k n : ℕ) (answer : Written) → n ≡ refusalIn answer → answer ≡ written k → n ≡ k
-written-told k n answer e made = e ∙ ap refusalIn made ∙ in-written k
+pub written-number : (k n : ℕ) (answer : Written) → n ≡ refusalIn answer → answer ≡ written k → n ≡ k
+written-number k n answer e made = e ∙ ap refusalIn made ∙ in-written k
 
 pub counted-count : (k v x : ℕ) → Counted.Count x ≡ counted k v → (0 ≡ k) × (x ≡ v)
 counted-count zero v x e = (refl, cc)
@@ -91,3 +96,14 @@ row-at (suc k) v x e = let z : _≡_ {A = ℕ} 0 1 = cc in absurd (omega arith)
 pub row-refused : (k v n : ℕ) → Row.Refused n ≡ rowAt k v → (n ≡ k) × (n ≡ 0 → ⊥)
 row-refused zero v n e = let z : _≡_ {A = ℕ} 0 1 = cc in absurd (omega arith)
 row-refused (suc k) v n e = let d : n ≡ suc k = cc in (d, λ z. omega arith)
+
+-- What a call leaves, for an answer that is the same.
+pub pair-left : (number : ℕ) (result : Aligned) (counts counts′ grey grey′ words words′ : List ℕ) (r r′ : Paired) → r ≡ r′
+    → PairLeft number result counts counts′ grey grey′ words words′ r → PairLeft number result counts counts′ grey grey′ words words′ r′
+pair-left number result counts counts′ grey grey′ words words′ r r′ e = subst (PairLeft number result counts counts′ grey grey′ words words′) e
+
+pub series-left : (number : ℕ) (result : Answer) (offsets offsets′ : List ℤ) (counts counts′ grey grey′ words words′ : List ℕ) (r r′ : Written) → r ≡ r′
+    → SeriesLeft number result offsets offsets′ counts counts′ grey grey′ words words′ r
+    → SeriesLeft number result offsets offsets′ counts counts′ grey grey′ words words′ r′
+series-left number result offsets offsets′ counts counts′ grey grey′ words words′ r r′ e =
+    subst (SeriesLeft number result offsets offsets′ counts counts′ grey grey′ words words′) e
