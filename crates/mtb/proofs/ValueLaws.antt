@@ -14,10 +14,10 @@ use Rattle.rules.specs.Levels.{Aligned}
 use Rattle.rules.specs.Series.{Answer}
 use Rattle.rules.specs.Calls.{PairLeft, SeriesLeft}
 use Rattle.ppm_read.specs.declared.Size.{Size}
-use Rattle.ppm_read.specs.declared.Held.{Held}
-use Rattle.ppm_write.specs.declared.Stored.{Stored}
-use Rattle.ppm_read.specs.P6.{held}
-use Rattle.ppm_write.specs.P6Writes.{stored}
+use Rattle.ppm_read.specs.declared.SizeRead.{SizeRead}
+use Rattle.ppm_write.specs.declared.FileWritten.{FileWritten}
+use Rattle.ppm_read.specs.P6.{sizeRead}
+use Rattle.ppm_write.specs.P6Writes.{fileWritten}
 use Rattle.area.specs.declared.Area.{Area}
 use Rattle.area.specs.declared.Common.{Common}
 use Rattle.area.specs.Common.{common}
@@ -65,21 +65,21 @@ pub paired-refused : (k : ℕ) (v : Offset) (n : ℕ) → Paired.Refused n ≡ p
 paired-refused zero v n e = let z : _≡_ {A = ℕ} 0 1 = cc in absurd (omega arith)
 paired-refused (suc k) v n e = let d : n ≡ suc k = cc in (d, λ z. omega arith)
 
-pub held-frame : (k : ℕ) (v x : Size) → Held.Frame x ≡ held k v → (0 ≡ k) × (x ≡ v)
-held-frame zero v x e = (refl, cc)
-held-frame (suc k) v x e = let z : _≡_ {A = ℕ} 0 1 = cc in absurd (omega arith)
+pub read-frame : (k : ℕ) (v x : Size) → SizeRead.Frame x ≡ sizeRead k v → (0 ≡ k) × (x ≡ v)
+read-frame zero v x e = (refl, cc)
+read-frame (suc k) v x e = let z : _≡_ {A = ℕ} 0 1 = cc in absurd (omega arith)
 
-pub held-refused : (k : ℕ) (v : Size) (n : ℕ) → Held.Refused n ≡ held k v → (n ≡ k) × (n ≡ 0 → ⊥)
-held-refused zero v n e = let z : _≡_ {A = ℕ} 0 1 = cc in absurd (omega arith)
-held-refused (suc k) v n e = let d : n ≡ suc k = cc in (d, λ z. omega arith)
+pub read-refused : (k : ℕ) (v : Size) (n : ℕ) → SizeRead.Refused n ≡ sizeRead k v → (n ≡ k) × (n ≡ 0 → ⊥)
+read-refused zero v n e = let z : _≡_ {A = ℕ} 0 1 = cc in absurd (omega arith)
+read-refused (suc k) v n e = let d : n ≡ suc k = cc in (d, λ z. omega arith)
 
-pub stored-bytes : (k v x : ℕ) → Stored.Bytes x ≡ stored k v → (0 ≡ k) × (x ≡ v)
-stored-bytes zero v x e = (refl, cc)
-stored-bytes (suc k) v x e = let z : _≡_ {A = ℕ} 0 1 = cc in absurd (omega arith)
+pub written-bytes : (k v x : ℕ) → FileWritten.Bytes x ≡ fileWritten k v → (0 ≡ k) × (x ≡ v)
+written-bytes zero v x e = (refl, cc)
+written-bytes (suc k) v x e = let z : _≡_ {A = ℕ} 0 1 = cc in absurd (omega arith)
 
-pub stored-refused : (k v n : ℕ) → Stored.Refused n ≡ stored k v → (n ≡ k) × (n ≡ 0 → ⊥)
-stored-refused zero v n e = let z : _≡_ {A = ℕ} 0 1 = cc in absurd (omega arith)
-stored-refused (suc k) v n e = let d : n ≡ suc k = cc in (d, λ z. omega arith)
+pub file-refused : (k v n : ℕ) → FileWritten.Refused n ≡ fileWritten k v → (n ≡ k) × (n ≡ 0 → ⊥)
+file-refused zero v n e = let z : _≡_ {A = ℕ} 0 1 = cc in absurd (omega arith)
+file-refused (suc k) v n e = let d : n ≡ suc k = cc in (d, λ z. omega arith)
 
 pub common-area : (k : ℕ) (v x : Area) → Common.Area x ≡ common k v → (0 ≡ k) × (x ≡ v)
 common-area zero v x e = (refl, cc)

@@ -5,12 +5,12 @@ ghost use lib.ListN.{length};
 ghost use Rattle.ppm_read.specs.P6.{headerOf, p6Refusal, sizeIn, startIn, rasterOf};
 ghost use Rattle.ppm_write.specs.P6Writes.{p6File, writeRefusal, writeOut};
 ghost use Rattle.mtb.specs.Values.{valueAfter};
-use ppm_read::Held;
+use ppm_read::SizeRead;
 use ppm_read::p6_raster;
 use ppm_read::p6_size;
 use ppm_read::reading::file_refusal;
 use ppm_read::reading::raster_start;
-use ppm_write::Stored;
+use ppm_write::FileWritten;
 use ppm_write::p6_write;
 
 #[no_mangle]
@@ -20,12 +20,12 @@ pub extern "C" fn mtb_p6_size(file: &[u8], w: &mut u32, h: &mut u32) -> u32
     ensures h { λ _. ⌜ now (h .exit) ≡ valueAfter (p6Refusal (now (file .entry))) (sizeIn (headerOf (now (file .entry))) .h) (now (h .entry)) ⌝ }
 {
     match p6_size(file) {
-        Held::Frame(size) => {
+        SizeRead::Frame(size) => {
             *w = size.w as u32;
             *h = size.h as u32;
             0
         }
-        Held::Refused(n) => n,
+        SizeRead::Refused(n) => n,
     }
 }
 
@@ -59,10 +59,10 @@ pub extern "C" fn mtb_p6_write(
     ensures written { λ _. ⌜ now (written .exit) ≡ valueAfter (writeRefusal w h (length (now (raster .entry))) (length (now (out .entry)))) (length (p6File w h (now (raster .entry)))) (now (written .entry)) ⌝ }
 {
     match p6_write(w as usize, h as usize, raster, out) {
-        Stored::Bytes(bytes) => {
+        FileWritten::Bytes(bytes) => {
             *written = bytes;
             0
         }
-        Stored::Refused(n) => n,
+        FileWritten::Refused(n) => n,
     }
 }

@@ -10,24 +10,25 @@ use lib.Seq.{sets, sets-eq, take-append-seam, drop-append-add, drop-drop}
 use Rattle.rules.specs.declared.Offset.{Offset}
 use Rattle.rules.specs.Frames.{writtenOver}
 use Rattle.rules.specs.Planes.{distance}
+use Rattle.rules.specs.Limits.{maxOffset}
 use Rattle.rules.specs.Levels.{added, Near}
 use Rattle.rules.specs.Series.{frameOffset, offsetList}
 use Rattle.rules.proofs.SeriesLaws.{frame-step}
 use Rattle.rules.proofs.OffsetLaws.{near-frame, near-more, length-offsets, offset-at}
-use Rattle.offsets.specs.Pairs.{maxPairOffset, pairOffset, withOffset, SmallPairs}
+use Rattle.offsets.specs.Pairs.{maxFrameOffset, pairOffset, withOffset, SmallPairs}
 
 -- A frame is at most 15 pairs away, so that the machine's next sum is exact.
-frame-small : (pairs : List ℤ) (n r k : ℕ) → n ≤ 15 → SmallPairs n pairs → r ≤ n → k ≤ n → Near 2000000 (frameOffset (pairOffset pairs) r k)
+frame-small : (pairs : List ℤ) (n r k : ℕ) → n ≤ 15 → SmallPairs n pairs → r ≤ n → k ≤ n → Near maxFrameOffset (frameOffset (pairOffset pairs) r k)
 unfolding distance
 frame-small pairs n r k few small p q =
-    near-more (distance k r * maxPairOffset) 2000000 (frameOffset (pairOffset pairs) r k) (omega arith)
-    (near-frame maxPairOffset (pairOffset pairs) n r k p q small)
+    near-more (distance k r * maxOffset) maxFrameOffset (frameOffset (pairOffset pairs) r k) (omega arith)
+    (near-frame maxOffset (pairOffset pairs) n r k p q small)
 
-pub turn-ready : (pairs : List ℤ) (r : ℕ) (m : Offset) → r ≤ 15 → SmallPairs r pairs → m ≡ frameOffset (pairOffset pairs) 0 r → Near 2000000 m
+pub turn-ready : (pairs : List ℤ) (r : ℕ) (m : Offset) → r ≤ 15 → SmallPairs r pairs → m ≡ frameOffset (pairOffset pairs) 0 r → Near maxFrameOffset m
 turn-ready pairs r m few small e = rw e (frame-small pairs r 0 r few small (omega arith) (omega arith))
 
 pub next-ready : (pairs : List ℤ) (n r k : ℕ) (m : Offset) → n ≤ 15 → SmallPairs n pairs → r ≤ n → k < n → m ≡ frameOffset (pairOffset pairs) r k
-    → Near 2000000 m × Near maxPairOffset (pairOffset pairs k)
+    → Near maxFrameOffset m × Near maxOffset (pairOffset pairs k)
 next-ready pairs n r k m few small p q e = (rw e (frame-small pairs n r k few small p (omega arith)), small k q)
 
 -- the running offset, one frame on

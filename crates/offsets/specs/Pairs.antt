@@ -4,11 +4,12 @@ use Prim.Native.Nat.{ℕ, _+_, _*_, _<_}
 use lib.IntN.{ℤ, pos}
 use lib.ListN.{getD, set}
 use Rattle.rules.specs.declared.Offset.{Offset}
+use Rattle.rules.specs.Limits.{maxOffset}
 use Rattle.rules.specs.Levels.{Near}
 
--- "its function reaches 2^(s+1)−1", s being at most 8
-abbrev pub maxPairOffset : ℕ
-maxPairOffset = 511
+-- the farthest offset of a frame: 15 pairs, each as far as a pair can be
+abbrev pub maxFrameOffset : ℕ
+maxFrameOffset = 7665
 
 -- the offset of the pair of frames j and j + 1
 abbrev pub pairOffset : List ℤ → ℕ → Offset
@@ -20,4 +21,4 @@ withOffset k m l = set (set l (2 * k) (m .dx)) (2 * k + 1) (m .dy)
 
 -- n pairs, none larger than a pair can be
 abbrev pub SmallPairs : ℕ → List ℤ → Type 0
-SmallPairs n l = (j : ℕ) → j < n → Near maxPairOffset (pairOffset l j)
+SmallPairs n l = (j : ℕ) → j < n → Near maxOffset (pairOffset l j)

@@ -4,10 +4,11 @@ use rules::Offset;
 ghost use mathlib.Core.Path.{_≡_};
 ghost use Prim.Native.Nat.{_+_, _*_, _-_, _<_, _≤_};
 ghost use lib.ListN.{length};
+ghost use Rattle.rules.specs.Limits.{maxOffset};
 ghost use Rattle.rules.specs.Frames.{writtenOver};
 ghost use Rattle.rules.specs.Levels.{added, Near};
 ghost use Rattle.rules.specs.Series.{opposite, frameOffset, offsetList};
-ghost use Rattle.offsets.specs.Pairs.{maxPairOffset, pairOffset, withOffset, SmallPairs};
+ghost use Rattle.offsets.specs.Pairs.{maxFrameOffset, pairOffset, withOffset, SmallPairs};
 
 // Writes offset k of a list. (The language stores no field directly, only a local.)
 pub fn put_offset(list: &mut [i32], k: usize, m: Offset)
@@ -24,7 +25,7 @@ pub fn put_offset(list: &mut [i32], k: usize, m: Offset)
 // The offset of frame k + 1: that of frame k, and that of their pair.
 fn next_offset(m: Offset, pairs: &[i32], k: usize) -> Offset
     requires { ⌜ 2 * k + 2 ≤ length (now pairs) ⌝ }
-    requires { ⌜ Near 2000000 m × Near maxPairOffset (pairOffset (now pairs) k) ⌝ }
+    requires { ⌜ Near maxFrameOffset m × Near maxOffset (pairOffset (now pairs) k) ⌝ }
     ensures { λ r. ⌜ r ≡ added m (pairOffset (now (pairs .entry)) k) ⌝ }
 {
     let at = 2 * k;
@@ -35,7 +36,7 @@ fn next_offset(m: Offset, pairs: &[i32], k: usize) -> Offset
 
 // An offset turned round: that of frame 0 from frame r, for that of frame r from frame 0.
 fn turned(m: Offset) -> Offset
-    requires { ⌜ Near 2000000 m ⌝ }
+    requires { ⌜ Near maxFrameOffset m ⌝ }
     ensures { λ r. ⌜ r ≡ opposite m ⌝ }
 {
     let left = -m.dx;

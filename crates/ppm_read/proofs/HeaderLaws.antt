@@ -11,9 +11,9 @@ use borrow.Author.Tests.{le-leb, leb-true}
 use Rattle.text.specs.declared.Number.{Number}
 use Rattle.rules.proofs.SumLaws.{order}
 use Rattle.ppm_read.specs.declared.Size.{Size}
-use Rattle.ppm_read.specs.declared.Held.{Held}
+use Rattle.ppm_read.specs.declared.SizeRead.{SizeRead}
 use Rattle.ppm_read.specs.declared.Header.{Header}
-use Rattle.ppm_read.specs.P6.{magic, isMagic, isWhite, fieldOf, after, ending, fields, headerOf, startIn, held, partOr}
+use Rattle.ppm_read.specs.P6.{magic, isMagic, isWhite, fieldOf, after, ending, fields, headerOf, startIn, sizeRead, partOr}
 
 pub magic-long : (file : List ℕ) → isMagic file ≡ true → 2 ≤ length file
 unfolding isMagic
@@ -66,9 +66,9 @@ unfolding startIn
 good-within file w h start e = rw e at (start-within file)
 
 -- A refused file: the companion answers its number, and the part is empty.
-pub held-refused : (n : ℕ) (size : Size) → (n ≡ 0 → ⊥) → Held.Refused n ≡ held n size
-held-refused zero size l = absurd (l refl)
-held-refused (suc n) size l = refl
+pub read-refused : (n : ℕ) (size : Size) → (n ≡ 0 → ⊥) → SizeRead.Refused n ≡ sizeRead n size
+read-refused zero size l = absurd (l refl)
+read-refused (suc n) size l = refl
 
 pub part-refused : (n : ℕ) (part : List ℕ) → (n ≡ 0 → ⊥) → [] ≡ partOr n part
 part-refused zero part l = absurd (l refl)

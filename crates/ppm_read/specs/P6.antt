@@ -9,7 +9,7 @@ use Rattle.text.specs.declared.Number.{Number}
 use Rattle.text.specs.Digits.{leading, numberOf}
 use Rattle.rules.specs.Refusals.{_when_, _orElse_, badSize, wrongLength, rasterLength}
 use Rattle.ppm_read.specs.declared.Size.{Size}
-use Rattle.ppm_read.specs.declared.Held.{Held}
+use Rattle.ppm_read.specs.declared.SizeRead.{SizeRead}
 use Rattle.ppm_read.specs.declared.Header.{Header}
 
 -- "the bytes 50 36 hexadecimal, "P6""
@@ -51,8 +51,8 @@ headerOf file = cond (isMagic file) (fields file) Header.Bad
 
 -- 1. "The P6 header breaks the rule above or has a largest value other than 255." 2. The size. 9. "raster after the header included"
 unfoldable pub headerRefusal : Header → ℕ → ℕ
-headerRefusal Header.Bad length = 1
-headerRefusal (Header.Good w h start) length = 2 when badSize w h orElse 9 when wrongLength (rasterLength w h) (length - start)
+headerRefusal Header.Bad bytes = 1
+headerRefusal (Header.Good w h start) bytes = 2 when badSize w h orElse 9 when wrongLength (rasterLength w h) (bytes - start)
 
 unfoldable pub p6Refusal : List ℕ → ℕ
 p6Refusal file = headerRefusal (headerOf file) (length file)
@@ -67,12 +67,12 @@ startIn Header.Bad = 0
 startIn (Header.Good w h start) = start
 
 -- The reader's companion: "a companion call gives width and height".
-abbrev pub held : ℕ → Size → Held
-held zero size = Held.Frame size
-held (suc n) size = Held.Refused (suc n)
+abbrev pub sizeRead : ℕ → Size → SizeRead
+sizeRead zero size = SizeRead.Frame size
+sizeRead (suc n) size = SizeRead.Refused (suc n)
 
-abbrev pub sizeAnswer : List ℕ → Held
-sizeAnswer file = held (p6Refusal file) (sizeIn (headerOf file))
+abbrev pub sizeAnswer : List ℕ → SizeRead
+sizeAnswer file = sizeRead (p6Refusal file) (sizeIn (headerOf file))
 
 -- The reader: "hands back the raster as the part of the file's bytes that it is", "an empty part when refused".
 abbrev pub partOr : ℕ → List ℕ → List ℕ

@@ -12,7 +12,7 @@ pub struct Size {
 }
 
 // The answer of the reader's companion: the size of the frame that a file holds.
-pub enum Held {
+pub enum SizeRead {
     Frame(Size),
     Refused(u32),
 }
@@ -41,12 +41,12 @@ pub fn p6_raster(file: &[u8]) -> &[u8]
 }
 
 // The companion: the size of the frame that a P6 file holds.
-pub fn p6_size(file: &[u8]) -> Held
+pub fn p6_size(file: &[u8]) -> SizeRead
     ensures { λ r. ⌜ r ≡ sizeAnswer (now (file .entry)) ⌝ }
 {
     let n = reading::file_refusal(file);
     if n != 0 {
-        return Held::Refused(n);
+        return SizeRead::Refused(n);
     }
-    Held::Frame(reading::frame_size(file))
+    SizeRead::Frame(reading::frame_size(file))
 }

@@ -13,9 +13,9 @@ use Rattle.text.proofs.PutLaws.{put-length, put-then}
 use Rattle.rules.specs.Refusals.{_when_, _orElse_, badSize, wrongLength, short, rasterLength}
 use Rattle.rules.specs.Accepted.{SizeOk}
 use Rattle.rules.proofs.RefusalLaws.{when-no, orElse-no, length-is, size-ok}
-use Rattle.ppm_write.specs.declared.Stored.{Stored}
+use Rattle.ppm_write.specs.declared.FileWritten.{FileWritten}
 use Rattle.ppm_read.specs.P6.{magic}
-use Rattle.ppm_write.specs.P6Writes.{header, writeRefusal, stored}
+use Rattle.ppm_write.specs.P6Writes.{header, writeRefusal, fileWritten}
 
 pub length-header : (w h : ℕ) → length (header w h) ≡ 2 + length (digits w) + length (digits h) + length (digits 255) + 4
 unfolding header
@@ -92,6 +92,6 @@ write-ok w h raster out e =
       room = rw exact (ltb-false out needed (when-no 10 (short needed out) (omega arith) (q .1)));
     }
 
-pub stored-refused : (n k : ℕ) → (n ≡ 0 → ⊥) → Stored.Refused n ≡ stored n k
-stored-refused zero k l = absurd (l refl)
-stored-refused (suc n) k l = refl
+pub file-refused : (n k : ℕ) → (n ≡ 0 → ⊥) → FileWritten.Refused n ≡ fileWritten n k
+file-refused zero k l = absurd (l refl)
+file-refused (suc n) k l = refl

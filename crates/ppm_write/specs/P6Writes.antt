@@ -6,7 +6,7 @@ use Rattle.text.specs.Digits.{digits}
 use Rattle.rules.specs.Refusals.{_when_, _orElse_, badSize, wrongLength, short, rasterLength}
 use Rattle.rules.specs.Answers.{bufferAfter}
 use Rattle.ppm_read.specs.P6.{magic}
-use Rattle.ppm_write.specs.declared.Stored.{Stored}
+use Rattle.ppm_write.specs.declared.FileWritten.{FileWritten}
 
 -- The writer: "one byte 10 for each whitespace but a 32 between width and height, no leading zeros".
 unfoldable pub header : ℕ → ℕ → List ℕ
@@ -21,13 +21,13 @@ writeRefusal w h raster out =
     orElse 9 when wrongLength (rasterLength w h) raster
     orElse 10 when short (length (header w h) + rasterLength w h) out
 
-abbrev pub stored : ℕ → ℕ → Stored
-stored zero n = Stored.Bytes n
-stored (suc n) k = Stored.Refused (suc n)
+abbrev pub fileWritten : ℕ → ℕ → FileWritten
+fileWritten zero n = FileWritten.Bytes n
+fileWritten (suc n) k = FileWritten.Refused (suc n)
 
 -- "tells the number of bytes written"
-abbrev pub writeAnswer : ℕ → ℕ → List ℕ → List ℕ → Stored
-writeAnswer w h raster out = stored (writeRefusal w h (length raster) (length out)) (length (p6File w h raster))
+abbrev pub writeAnswer : ℕ → ℕ → List ℕ → List ℕ → FileWritten
+writeAnswer w h raster out = fileWritten (writeRefusal w h (length raster) (length out)) (length (p6File w h raster))
 
 abbrev pub writeOut : ℕ → ℕ → List ℕ → List ℕ → List ℕ
 writeOut w h raster out = bufferAfter (writeRefusal w h (length raster) (length out)) (p6File w h raster) out

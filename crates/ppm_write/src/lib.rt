@@ -6,20 +6,20 @@ ghost use mathlib.Core.Path.{_≡_};
 ghost use Rattle.ppm_write.specs.P6Writes.{writeAnswer, writeOut};
 
 // The answer of the writer: the number of bytes written.
-pub enum Stored {
+pub enum FileWritten {
     Bytes(usize),
     Refused(u32),
 }
 
 // Writes a P6 file into a lent buffer, and tells the number of its bytes.
-pub fn p6_write(w: usize, h: usize, raster: &[u8], out: &mut [u8]) -> Stored
+pub fn p6_write(w: usize, h: usize, raster: &[u8], out: &mut [u8]) -> FileWritten
     ensures answer { λ r. ⌜ r ≡ writeAnswer w h (now (raster .entry)) (now (out .entry)) ⌝ }
     ensures output { λ _. ⌜ now (out .exit) ≡ writeOut w h (now (raster .entry)) (now (out .entry)) ⌝ }
 {
     let n = writing::write_refusal(w, h, raster.len(), out.len());
     if n != 0 {
-        return Stored::Refused(n);
+        return FileWritten::Refused(n);
     }
     let start = writing::put_header(out, w as u32, h as u32);
-    Stored::Bytes(text::put(out, start, raster))
+    FileWritten::Bytes(text::put(out, start, raster))
 }

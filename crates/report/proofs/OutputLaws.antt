@@ -18,8 +18,8 @@ use Rattle.rules.specs.Accepted.{PairOk}
 use Rattle.rules.proofs.AlignmentLaws.{pair-ok}
 use Rattle.align.proofs.AlignLaws.{counts-length}
 use Rattle.ppm_read.specs.declared.Size.{Size}
-use Rattle.ppm_read.specs.declared.Held.{Held}
-use Rattle.ppm_read.specs.P6.{headerOf, sizeIn, p6Refusal, rasterOf, held, sizeAnswer}
+use Rattle.ppm_read.specs.declared.SizeRead.{SizeRead}
+use Rattle.ppm_read.specs.P6.{headerOf, sizeIn, p6Refusal, rasterOf, sizeRead, sizeAnswer}
 use Rattle.report.specs.declared.Settings.{Settings}
 use Rattle.report.specs.SettingsLine.{settingsOf}
 use Rattle.report.specs.Output.{settingsText, refusedText, offsetText, levelsText, alignedText, countsLent, greyLent, wordsLent}
@@ -33,19 +33,19 @@ unfolding answerText
 pair-refused zero n m text e = let z : _≡_ {A = ℕ} 0 1 = cc in absurd (omega arith)
 pair-refused (suc r) n m text e = let d : suc r ≡ n = cc in rw d
 
-held-refused : (r n : ℕ) (size : Size) (rest : ℕ) (text : List ℕ) → held r size ≡ Held.Refused n → answerText (r orElse rest) text ≡ refusedText n
+read-refused : (r n : ℕ) (size : Size) (rest : ℕ) (text : List ℕ) → sizeRead r size ≡ SizeRead.Refused n → answerText (r orElse rest) text ≡ refusedText n
 unfolding answerText
-held-refused zero n size rest text e = let z : _≡_ {A = ℕ} 0 1 = cc in absurd (omega arith)
-held-refused (suc r) n size rest text e = let d : suc r ≡ n = cc in rw d
+read-refused zero n size rest text e = let z : _≡_ {A = ℕ} 0 1 = cc in absurd (omega arith)
+read-refused (suc r) n size rest text e = let d : suc r ≡ n = cc in rw d
 
 -- A call that accepts: its number is 0.
 pair-moved : (r : ℕ) (m z : Offset) → paired r m ≡ Paired.Moved z → (r ≡ 0) × (m ≡ z)
 pair-moved zero m z e = (refl, cc)
 pair-moved (suc r) m z e = let z : _≡_ {A = ℕ} 0 1 = cc in absurd (omega arith)
 
-held-frame : (r : ℕ) (size z : Size) → held r size ≡ Held.Frame z → (r ≡ 0) × (size ≡ z)
-held-frame zero size z e = (refl, cc)
-held-frame (suc r) size z e = let z : _≡_ {A = ℕ} 0 1 = cc in absurd (omega arith)
+read-frame : (r : ℕ) (size z : Size) → sizeRead r size ≡ SizeRead.Frame z → (r ≡ 0) × (size ≡ z)
+read-frame zero size z e = (refl, cc)
+read-frame (suc r) size z e = let z : _≡_ {A = ℕ} 0 1 = cc in absurd (omega arith)
 
 answer-same : (r : ℕ) (t u : List ℕ) → (r ≡ 0 → t ≡ u) → answerText r t ≡ answerText r u
 unfolding answerText
@@ -86,21 +86,21 @@ module _ (size : Size) (s tolerance percentile : ℕ) (first second : List ℕ) 
 
 -- The two files, one after the other.
 module _ (s tolerance percentile : ℕ) (first second : List ℕ) where
-  pub first-refused : (n : ℕ) → sizeAnswer first ≡ Held.Refused n → filesText s tolerance percentile first second ≡ refusedText n
+  pub first-refused : (n : ℕ) → sizeAnswer first ≡ SizeRead.Refused n → filesText s tolerance percentile first second ≡ refusedText n
   unfolding filesText bracketRefusal
-  first-refused n e = held-refused (p6Refusal first) n (sizeIn (headerOf first)) _ _ e
+  first-refused n e = read-refused (p6Refusal first) n (sizeIn (headerOf first)) _ _ e
 
-  module _ (one : Size) (e : sizeAnswer first ≡ Held.Frame one) where
+  module _ (one : Size) (e : sizeAnswer first ≡ SizeRead.Frame one) where
     good1 : (p6Refusal first ≡ 0) × (sizeIn (headerOf first) ≡ one)
-    good1 = held-frame (p6Refusal first) (sizeIn (headerOf first)) one e
+    good1 = read-frame (p6Refusal first) (sizeIn (headerOf first)) one e
 
-    pub second-refused : (n : ℕ) → sizeAnswer second ≡ Held.Refused n → filesText s tolerance percentile first second ≡ refusedText n
+    pub second-refused : (n : ℕ) → sizeAnswer second ≡ SizeRead.Refused n → filesText s tolerance percentile first second ≡ refusedText n
     unfolding filesText bracketRefusal
-    second-refused n d = rw (good1 .0) (held-refused (p6Refusal second) n (sizeIn (headerOf second)) _ _ d)
+    second-refused n d = rw (good1 .0) (read-refused (p6Refusal second) n (sizeIn (headerOf second)) _ _ d)
 
-    module _ (two : Size) (f : sizeAnswer second ≡ Held.Frame two) where
+    module _ (two : Size) (f : sizeAnswer second ≡ SizeRead.Frame two) where
       good2 : (p6Refusal second ≡ 0) × (sizeIn (headerOf second) ≡ two)
-      good2 = held-frame (p6Refusal second) (sizeIn (headerOf second)) two f
+      good2 = read-frame (p6Refusal second) (sizeIn (headerOf second)) two f
 
       same-raster : secondRaster first second ≡ rasterOfSize one two second
       unfolding secondRaster rasterOfSize

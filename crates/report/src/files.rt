@@ -6,8 +6,8 @@ use crate::OUTPUT_LENT;
 use crate::WORDS_LENT;
 use crate::writer::put_aligned;
 use crate::writer::put_refused;
-use ppm_read::Held;
 use ppm_read::Size;
+use ppm_read::SizeRead;
 use ppm_read::p6_raster;
 use ppm_read::p6_size;
 use rules::Paired;
@@ -92,10 +92,10 @@ pub fn put_files(
     let held1 = p6_size(first);
     let held2 = p6_size(second);
     match held1 {
-        Held::Refused(n) => put_refused(out, n),
-        Held::Frame(one) => match held2 {
-            Held::Refused(n) => put_refused(out, n),
-            Held::Frame(two) => put_pair(
+        SizeRead::Refused(n) => put_refused(out, n),
+        SizeRead::Frame(one) => match held2 {
+            SizeRead::Refused(n) => put_refused(out, n),
+            SizeRead::Frame(two) => put_pair(
                 one,
                 s,
                 tolerance,

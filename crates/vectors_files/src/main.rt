@@ -2,8 +2,8 @@
 
 use area::Common;
 use blink::Row;
-use ppm_read::Held;
-use ppm_write::Stored;
+use ppm_read::SizeRead;
+use ppm_write::FileWritten;
 use vectors::answers::DIFFERS;
 use vectors::answers::number_when;
 use vectors::answers::written;
@@ -77,12 +77,12 @@ fn refused_part(n: u32, handed: usize) -> u32 {
     if handed == 0 { n } else { DIFFERS }
 }
 
-fn held(answer: Held, expected: Values, same: bool, handed: usize) -> u32 {
+fn sizeRead(answer: SizeRead, expected: Values, same: bool, handed: usize) -> u32 {
     match answer {
-        Held::Frame(size) => {
+        SizeRead::Frame(size) => {
             number_when(same && size.w == expected.one && size.h == expected.two)
         }
-        Held::Refused(n) => refused_part(n, handed),
+        SizeRead::Refused(n) => refused_part(n, handed),
     }
 }
 
@@ -91,13 +91,13 @@ fn read_number(data: &[u8], at: usize) -> u32 {
     let expected = values_of(data, at);
     let raster = ppm_read::p6_raster(file);
     let same = part_is(raster, file, expected.three, expected.four);
-    held(ppm_read::p6_size(file), expected, same, raster.len())
+    sizeRead(ppm_read::p6_size(file), expected, same, raster.len())
 }
 
-fn stored(answer: Stored, bytes: usize) -> u32 {
+fn fileWritten(answer: FileWritten, bytes: usize) -> u32 {
     match answer {
-        Stored::Bytes(n) => number_when(n == bytes),
-        Stored::Refused(n) => n,
+        FileWritten::Bytes(n) => number_when(n == bytes),
+        FileWritten::Refused(n) => n,
     }
 }
 
@@ -105,7 +105,7 @@ fn write_number(data: &[u8], at: usize, out: &mut [u8]) -> u32 {
     let sides = sides_of(data, at);
     let raster = input(data, at, INPUT1);
     let answer = ppm_write::p6_write(sides.w, sides.h, raster, out);
-    stored(answer, size(data, at, VALUE1))
+    fileWritten(answer, size(data, at, VALUE1))
 }
 
 fn common(answer: Common, expected: Values) -> u32 {

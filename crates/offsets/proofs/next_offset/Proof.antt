@@ -7,12 +7,13 @@ use borrow.Author.Needs.{needs}
 use Rattle.rules.specs.Levels.{Near}
 use Rattle.rules.proofs.OffsetLaws.{near-more}
 use Rattle.rules.proofs.SignedLaws.{sum-bits-fit, sum-is}
-use Rattle.offsets.specs.Pairs.{maxPairOffset, pairOffset}
+use Rattle.rules.specs.Limits.{maxOffset}
+use Rattle.offsets.specs.Pairs.{pairOffset}
 use Rattle.offsets.proofs.next_offset.Statement.{statement}
 use Rattle.offsets.proofs.next_offset.Tie as tie
 
 near : (c : tie.Start) → Near 2000000 (pairOffset (c .args .pairs .now) (c .args .k))
-near c = near-more maxPairOffset 2000000 (pairOffset (c .args .pairs .now) (c .args .k)) (omega arith) (c .pre .1 .1)
+near c = near-more maxOffset 2000000 (pairOffset (c .args .pairs .now) (c .args .k)) (omega arith) (c .pre .1 .1)
 
 mul-at : tie.Need-mul-at
 mul-at c = search needs

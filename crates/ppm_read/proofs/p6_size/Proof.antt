@@ -1,6 +1,6 @@
 -- A refused file answers its number, any other one its size.
 use mathlib.Core.Path.{sym, _∙_}
-use Rattle.ppm_read.proofs.HeaderLaws.{held-refused}
+use Rattle.ppm_read.proofs.HeaderLaws.{read-refused}
 use borrow.Author.Needs.{needs}
 use Rattle.ppm_read.proofs.p6_size.Statement.{statement}
 use Rattle.ppm_read.proofs.p6_size.Tie as tie
@@ -9,7 +9,7 @@ file-refusal-requires : tie.Need-file-refusal-requires
 file-refusal-requires c κs = search needs
 
 returns : tie.Need-returns
-returns c = rw (← c .before .file-refusal .ensures) (held-refused _ _ (c .if1 .taken))
+returns c = rw (← c .before .file-refusal .ensures) (read-refused _ _ (c .if1 .taken))
 
 frame-size-requires : tie.Need-frame-size-requires
 frame-size-requires c κs = search needs

@@ -5,7 +5,7 @@ use borrow.Author.Needs.{needs}
 use Rattle.ppm_read.specs.declared.Size.{Size}
 use Rattle.ppm_read.specs.P6.{headerOf, p6Refusal, sizeIn}
 use Rattle.mtb.proofs.FitLaws.{SmallSize, size-small}
-use Rattle.mtb.proofs.ValueLaws.{held-frame, held-refused, value-accepted, value-refused}
+use Rattle.mtb.proofs.ValueLaws.{read-frame, read-refused, value-accepted, value-refused}
 use Rattle.mtb.proofs.files.mtb_p6_size.Statement.{statement}
 use Rattle.mtb.proofs.files.mtb_p6_size.Tie as tie
 
@@ -18,7 +18,7 @@ enum-known-size c = search needs
 -- what an accepted file tells
 accepted : (c : tie.After-size)
     → let file = c .before .before .before .before .args .file .now in (0 ≡ p6Refusal file) × (c .size .given .0 .0 ≡ sizeIn (headerOf file))
-accepted c = held-frame _ _ _ (sym (c .size .given .1) ∙ c .before .before .p6-size .ensures)
+accepted c = read-frame _ _ _ (sym (c .size .given .1) ∙ c .before .before .p6-size .ensures)
 
 small : (c : tie.After-size) → SmallSize (c .size .given .0 .0)
 small c = let m = accepted c in rw (m .1) (size-small _ (sym (m .0)))
@@ -39,7 +39,7 @@ returns c =
 
 returns-2 : tie.Need-returns-2
 returns-2 c =
-    let m = held-refused _ _ _ (sym (c .before .n .given .1) ∙ c .before .before .before .p6-size .ensures) in
+    let m = read-refused _ _ _ (sym (c .before .n .given .1) ∙ c .before .before .before .p6-size .ensures) in
     (m .0, (value-refused _ _ _ _ (m .0) (m .1), value-refused _ _ _ _ (m .0) (m .1)))
 
 pub mtb-p6-size-spec : {M : Type 1} → statement M

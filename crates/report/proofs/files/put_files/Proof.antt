@@ -1,7 +1,7 @@
 -- Each return is a law of the decision, from what the two companions have answered.
 use mathlib.Core.Path.{_≡_, sym, _∙_}
 use borrow.Author.Needs.{needs}
-use Rattle.ppm_read.specs.declared.Held.{Held}
+use Rattle.ppm_read.specs.declared.SizeRead.{SizeRead}
 use Rattle.ppm_read.specs.P6.{sizeAnswer}
 use Rattle.report.proofs.OutputLaws.{first-refused, second-refused, both-good}
 use Rattle.report.proofs.files.put_files.Statement.{statement}
@@ -11,8 +11,8 @@ abbrev start : tie.After-p6-size → tie.Start
 start c = c .before .before .before
 
 -- the first file holds a frame
-held : (c : tie.After-held12) → sizeAnswer (start (c .before .before .before) .args .first .now) ≡ Held.Frame (c .held12 .given .0 .0)
-held c = sym (c .before .before .before .p6-size .ensures) ∙ c .held12 .given .1
+sizeRead : (c : tie.After-held12) → sizeAnswer (start (c .before .before .before) .args .first .now) ≡ SizeRead.Frame (c .held12 .given .0 .0)
+sizeRead c = sym (c .before .before .before .p6-size .ensures) ∙ c .held12 .given .1
 
 p6-size-requires : tie.Need-p6-size-requires
 p6-size-requires c κs = search needs
@@ -58,7 +58,7 @@ returns-2 : tie.Need-returns-2
 returns-2 c =
     let b = c .before .before .before .before .before .before in
     let a = start (b .before .before .before) .args in
-    rw (second-refused (a .s) (a .tolerance) (a .percentile) (a .first .now) (a .second .now) _ (held b) _ (sym (b .before .before .p6-size2 .ensures) ∙ c .before .before .before .held2 .given .1))
+    rw (second-refused (a .s) (a .tolerance) (a .percentile) (a .first .now) (a .second .now) _ (sizeRead b) _ (sym (b .before .before .p6-size2 .ensures) ∙ c .before .before .before .held2 .given .1))
     (c .put-refused2 .ensures)
 
 returns-3 : tie.Need-returns-3
@@ -67,7 +67,7 @@ returns-3 c =
     let two = r .before .before .before in
     let b = two .before .before .before in
     let a = start (b .before .before .before) .args in
-    rw (both-good (a .s) (a .tolerance) (a .percentile) (a .first .now) (a .second .now) _ (held b) _ (sym (b .before .before .p6-size2 .ensures) ∙ two .held22 .given .1))
+    rw (both-good (a .s) (a .tolerance) (a .percentile) (a .first .now) (a .second .now) _ (sizeRead b) _ (sym (b .before .before .p6-size2 .ensures) ∙ two .held22 .given .1))
     (rw (r .before .p6-raster .ensures, r .raster-of-size .ensures) at (c .put-pair .ensures))
 
 pub put-files-spec : {M : Type 1} → statement M
