@@ -84,7 +84,8 @@ module _ (w h : ℕ) (dx : ℤ) (from to : ℕ) (before after : List ℕ) (apart
     (moved : FrameAt to (rowWords w) (slidBitmap w h dx (drop from before)) before h after) where
   small : (x y : ℕ) → shifted w h dx (pos 0) (bitAt w h (drop from before)) x y < 2
   unfolding shifted
-  small x y = within-small w (pos x -ℤ dx) (λ u. within h (pos y -ℤ pos 0) (λ v. bitAt w h (drop from before) u v)) (λ u. within-small h (pos y -ℤ pos 0) (λ v. bitAt w h (drop from before) u v) (λ v. bitAt-small w h (drop from before) u v))
+  small x y = within-small w (pos x -ℤ dx) (λ u. within h (pos y -ℤ pos 0) (λ v. bitAt w h (drop from before) u v))
+      (λ u. within-small h (pos y -ℤ pos 0) (λ v. bitAt w h (drop from before) u v) (λ v. bitAt-small w h (drop from before) u v))
 
   -- its bits, while only places after it are written
   slid-bits : (end : List ℕ) → ((m : ℕ) → m < to + rowWords w * h → getD end m 0 ≡ getD after m 0)

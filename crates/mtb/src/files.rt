@@ -16,8 +16,8 @@ use ppm_write::p6_write;
 #[no_mangle]
 pub extern "C" fn mtb_p6_size(file: &[u8], w: &mut u32, h: &mut u32) -> u32
     ensures answer { λ n. ⌜ n ≡ p6Refusal (now (file .entry)) ⌝ }
-    ensures w { λ _. ⌜ now (w .exit) ≡ valueAfter (p6Refusal (now (file .entry))) (sizeIn (headerOf (now (file .entry))) .w) (now (w .entry)) ⌝ }
-    ensures h { λ _. ⌜ now (h .exit) ≡ valueAfter (p6Refusal (now (file .entry))) (sizeIn (headerOf (now (file .entry))) .h) (now (h .entry)) ⌝ }
+    ensures w { λ k. ⌜ now (w .exit) ≡ valueAfter k (sizeIn (headerOf (now (file .entry))) .w) (now (w .entry)) ⌝ }
+    ensures h { λ k. ⌜ now (h .exit) ≡ valueAfter k (sizeIn (headerOf (now (file .entry))) .h) (now (h .entry)) ⌝ }
 {
     match p6_size(file) {
         SizeRead::Frame(size) => {
@@ -33,8 +33,8 @@ pub extern "C" fn mtb_p6_size(file: &[u8], w: &mut u32, h: &mut u32) -> u32
 #[no_mangle]
 pub extern "C" fn mtb_p6_raster(file: &[u8], start: &mut usize, bytes: &mut usize) -> u32
     ensures answer { λ n. ⌜ n ≡ p6Refusal (now (file .entry)) ⌝ }
-    ensures start { λ _. ⌜ now (start .exit) ≡ valueAfter (p6Refusal (now (file .entry))) (startIn (headerOf (now (file .entry)))) (now (start .entry)) ⌝ }
-    ensures bytes { λ _. ⌜ now (bytes .exit) ≡ valueAfter (p6Refusal (now (file .entry))) (length (rasterOf (now (file .entry)))) (now (bytes .entry)) ⌝ }
+    ensures start { λ k. ⌜ now (start .exit) ≡ valueAfter k (startIn (headerOf (now (file .entry)))) (now (start .entry)) ⌝ }
+    ensures bytes { λ k. ⌜ now (bytes .exit) ≡ valueAfter k (length (rasterOf (now (file .entry)))) (now (bytes .entry)) ⌝ }
 {
     let n = file_refusal(file);
     if n != 0 {
@@ -56,7 +56,7 @@ pub extern "C" fn mtb_p6_write(
 ) -> u32
     ensures answer { λ n. ⌜ n ≡ writeRefusal w h (length (now (raster .entry))) (length (now (out .entry))) ⌝ }
     ensures output { λ _. ⌜ now (out .exit) ≡ writeOut w h (now (raster .entry)) (now (out .entry)) ⌝ }
-    ensures written { λ _. ⌜ now (written .exit) ≡ valueAfter (writeRefusal w h (length (now (raster .entry))) (length (now (out .entry)))) (length (p6File w h (now (raster .entry)))) (now (written .entry)) ⌝ }
+    ensures written { λ k. ⌜ now (written .exit) ≡ valueAfter k (length (p6File w h (now (raster .entry)))) (now (written .entry)) ⌝ }
 {
     match p6_write(w as usize, h as usize, raster, out) {
         FileWritten::Bytes(bytes) => {

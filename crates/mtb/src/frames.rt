@@ -31,7 +31,7 @@ pub extern "C" fn mtb_halve(w: u32, h: u32, grey: &[u8], out: &mut [u8]) -> u32
 #[no_mangle]
 pub extern "C" fn mtb_threshold(w: u32, h: u32, percentile: u32, grey: &[u8], value: &mut u8) -> u32
     ensures answer { λ n. ⌜ n ≡ thresholdRefusal w h percentile (length (now (grey .entry))) ⌝ }
-    ensures value { λ _. ⌜ now (value .exit) ≡ valueAfter (thresholdRefusal w h percentile (length (now (grey .entry)))) (threshold w h percentile (frameOf w (now (grey .entry)))) (now (value .entry)) ⌝ }
+    ensures value { λ k. ⌜ now (value .exit) ≡ valueAfter k (threshold w h percentile (frameOf w (now (grey .entry)))) (now (value .entry)) ⌝ }
 {
     match threshold::threshold(w as usize, h as usize, percentile, grey) {
         Thresholded::At(t) => {

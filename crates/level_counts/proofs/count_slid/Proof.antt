@@ -63,7 +63,13 @@ overlap-frame-requires c κs =
       (
         p .0 .height,
         (
-          record { threshold1 = omega arith; exclusion1 = simp (length-take, length-drop) (omega arith); threshold2 = simp (length-take, length-drop) (omega arith); exclusion2 = simp (length-take, length-drop) (omega arith) },
+          record {
+            threshold1 = omega arith;
+            exclusion1 = simp (length-take, length-drop) (omega arith);
+            threshold2 = simp (length-take, length-drop)
+                (omega arith);
+            exclusion2 = simp (length-take, length-drop) (omega arith);
+          },
           (parts-clean (s .args .w) (s .args .h) (b .result) (s .args .words .now) (b .ensures) (p .1 .1 .1 .0 .clean), p .1 .1 .1 .1),
         ),
       ),

@@ -78,7 +78,8 @@ loop-again c =
       search needs,
       (
         kept,
-        rw e at (row-join (a .at) (nineOf count (a .centre)) (columnOf (wordsCount (a .w) (a .h) (slide .last .0)) (a .centre) (l .i)) (a .counts .now) (l .counts) end (3 * l .i) 3 (l .inv .1 .1) (three .ensures)
+        rw e at (row-join (a .at) (nineOf count (a .centre)) (columnOf (wordsCount (a .w) (a .h) (slide .last .0)) (a .centre) (l .i)) (a .counts .now) (l .counts) end
+            (3 * l .i) 3 (l .inv .1 .1) (three .ensures)
             (λ j k. count-kept (a .w) (a .h) (a .words .now) (slide .last .0) kept (candidateAt (a .centre) (3 * l .i + j)))),
       ),
     )

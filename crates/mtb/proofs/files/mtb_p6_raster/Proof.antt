@@ -2,7 +2,7 @@
 use mathlib.Core.Path.{sym, ap, _∙_}
 use lib.ListN.{length}
 use borrow.Author.Needs.{needs}
-use Rattle.mtb.proofs.ValueLaws.{value-accepted, value-refused}
+use Rattle.mtb.proofs.ValueLaws.{value-kept}
 use Rattle.mtb.proofs.files.mtb_p6_raster.Statement.{statement}
 use Rattle.mtb.proofs.files.mtb_p6_raster.Tie as tie
 
@@ -12,7 +12,7 @@ file-refusal-requires c κs = search needs
 returns : tie.Need-returns
 returns c =
     let e = c .before .file-refusal .ensures in
-    (e, (value-refused _ _ _ _ e (c .if1 .taken), value-refused _ _ _ _ e (c .if1 .taken)))
+    (e, (value-kept _ _ _ (c .if1 .taken), value-kept _ _ _ (c .if1 .taken)))
 
 p6-raster-requires : tie.Need-p6-raster-requires
 p6-raster-requires c κs = search needs
@@ -23,7 +23,7 @@ raster-start-requires c κs = search needs
 returns-2 : tie.Need-returns-2
 returns-2 c =
     let e = sym (c .before .before .if1 .left) ∙ c .before .before .before .file-refusal .ensures in
-    (e, (value-accepted _ _ _ _ e (c .raster-start .ensures), value-accepted _ _ _ _ e (ap length (c .before .p6-raster .ensures))))
+    (e, (c .raster-start .ensures, ap length (c .before .p6-raster .ensures)))
 
 pub mtb-p6-raster-spec : {M : Type 1} → statement M
 mtb-p6-raster-spec =

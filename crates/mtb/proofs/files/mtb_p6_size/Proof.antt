@@ -5,7 +5,7 @@ use borrow.Author.Needs.{needs}
 use Rattle.ppm_read.specs.declared.Size.{Size}
 use Rattle.ppm_read.specs.P6.{headerOf, p6Refusal, sizeIn}
 use Rattle.mtb.proofs.FitLaws.{SmallSize, size-small}
-use Rattle.mtb.proofs.ValueLaws.{read-frame, read-refused, value-accepted, value-refused}
+use Rattle.mtb.proofs.ValueLaws.{read-frame, read-refused, value-kept}
 use Rattle.mtb.proofs.files.mtb_p6_size.Statement.{statement}
 use Rattle.mtb.proofs.files.mtb_p6_size.Tie as tie
 
@@ -35,12 +35,12 @@ enum-known-n c = search needs
 returns : tie.Need-returns
 returns c =
     let m = accepted (c .before .before .before) in
-    (m .0, (value-accepted _ _ _ _ (m .0) (ap (λ (z : Size). z .w) (m .1)), value-accepted _ _ _ _ (m .0) (ap (λ (z : Size). z .h) (m .1))))
+    (m .0, ((ap (λ (z : Size). z .w) (m .1)), (ap (λ (z : Size). z .h) (m .1))))
 
 returns-2 : tie.Need-returns-2
 returns-2 c =
     let m = read-refused _ _ _ (sym (c .before .n .given .1) ∙ c .before .before .before .p6-size .ensures) in
-    (m .0, (value-refused _ _ _ _ (m .0) (m .1), value-refused _ _ _ _ (m .0) (m .1)))
+    (m .0, (value-kept _ _ _ (m .1), value-kept _ _ _ (m .1)))
 
 pub mtb-p6-size-spec : {M : Type 1} → statement M
 mtb-p6-size-spec =

@@ -1,7 +1,7 @@
 -- An accepted call's value is told; a refused one's number is, and the pointer's place is left.
 use mathlib.Core.Path.{sym, _∙_}
 use borrow.Author.Needs.{needs}
-use Rattle.mtb.proofs.ValueLaws.{thresholded-at, thresholded-refused, value-accepted, value-refused}
+use Rattle.mtb.proofs.ValueLaws.{thresholded-at, thresholded-refused, value-kept}
 use Rattle.mtb.proofs.frames.mtb_threshold.Statement.{statement}
 use Rattle.mtb.proofs.frames.mtb_threshold.Tie as tie
 
@@ -17,12 +17,12 @@ enum-known-n c = search needs
 returns : tie.Need-returns
 returns c =
     let m = thresholded-at _ _ _ (sym (c .before .t .given .1) ∙ c .before .before .before .threshold .ensures) in
-    (m .0, value-accepted _ _ _ _ (m .0) (m .1))
+    (m .0, m .1)
 
 returns-2 : tie.Need-returns-2
 returns-2 c =
     let m = thresholded-refused _ _ _ (sym (c .before .n .given .1) ∙ c .before .before .before .threshold .ensures) in
-    (m .0, value-refused _ _ _ _ (m .0) (m .1))
+    (m .0, value-kept _ _ _ (m .1))
 
 pub mtb-threshold-spec : {M : Type 1} → statement M
 mtb-threshold-spec =

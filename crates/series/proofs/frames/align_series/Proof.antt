@@ -16,8 +16,11 @@ slice-aggregate-align-pairs c = search needs
 align-pairs-requires : tie.Need-align-pairs-requires
 align-pairs-requires c κs =
     let s = c .before .before .before .before .before .before .before .before .before in
-    let a = s .args in
-    (pairs-ok (a .setup) (a .n) (a .r) (a .percentiles .now) (length (a .rasters .now)) (length (a .offsets .now)) _ (length (a .counts .now)) (length (a .grey .now)) (length (a .words .now)) (omega arith) (s .pre .0), s .pre .1)
+    let a = s .args in (
+      pairs-ok (a .setup) (a .n) (a .r) (a .percentiles .now) (length (a .rasters .now)) (length (a .offsets .now)) _ (length (a .counts .now)) (length (a .grey .now))
+          (length (a .words .now)) (omega arith) (s .pre .0),
+      s .pre .1,
+    )
 
 slice-aggregate-frame-offsets : tie.Need-slice-aggregate-frame-offsets
 slice-aggregate-frame-offsets c = search needs
