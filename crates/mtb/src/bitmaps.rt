@@ -8,7 +8,7 @@ ghost use Rattle.rules.specs.Differences.{difference};
 ghost use Rattle.rules.specs.Refusals.{shiftRefusal, totalRefusal, differenceRefusal};
 ghost use Rattle.rules.specs.Calls.{bitmapsNumber, thresholdsOut, exclusionsOut, shiftOut, planesOf};
 ghost use Rattle.mtb.specs.Values.{valueAfter};
-use crate::answers::refusal_in;
+use crate::numbers::refusal_in;
 use rules::Counted;
 
 #[no_mangle]

@@ -6,7 +6,7 @@ ghost use Rattle.area.specs.Common.{areaRefusal, commonArea};
 ghost use Rattle.moved.specs.Moved.{movedRefusal, movedOut};
 ghost use Rattle.blink.specs.Blink.{blinkRefusal, rowStart, blinkRow};
 ghost use Rattle.mtb.specs.Values.{valueAfter};
-use crate::answers::refusal_in;
+use crate::numbers::refusal_in;
 use area::Common;
 use area::common_area;
 use blink::Row;

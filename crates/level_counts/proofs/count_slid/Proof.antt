@@ -3,8 +3,8 @@ use mathlib.Core.Path.{_∙_}
 use native.Mathlib.Omega.{arith}
 use lib.ListN.{length-take, length-drop}
 use Rattle.rules.proofs.SignedLaws.{small-fits}
-use Rattle.level_counts.proofs.CountLaws.{parts-clean, parts-count}
-use Rattle.level_counts.proofs.SlideLaws.{slid-count}
+use Rattle.level_counts.proofs.CandidateLaws.{parts-clean, parts-count}
+use Rattle.level_counts.proofs.SlidCountLaws.{slid-count}
 use borrow.Author.Needs.{needs}
 use Rattle.level_counts.proofs.count_slid.Statement.{statement}
 use Rattle.level_counts.proofs.count_slid.Tie as tie

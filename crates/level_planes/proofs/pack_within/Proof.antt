@@ -6,7 +6,7 @@ use Rattle.rules.specs.Bitmaps.{rowWords, wordOf}
 use Rattle.rules.proofs.FrameLaws.{row-fits}
 use Rattle.pack.specs.Outside.{outsidePlane}
 use Rattle.pack.proofs.OutsideLaws.{row-place}
-use Rattle.level_planes.specs.Planes.{BothAt}
+use Rattle.level_planes.specs.LevelPlanes.{BothAt}
 use Rattle.level_planes.proofs.PlaneLaws.{both-none, packed-more}
 use native.Mathlib.Omega.{arith}
 use borrow.Author.Needs.{needs}

@@ -8,7 +8,7 @@ use Rattle.rules.specs.Levels.{Near}
 use Rattle.rules.proofs.OffsetLaws.{near-more}
 use Rattle.rules.proofs.SignedLaws.{sum-bits-fit, sum-is}
 use Rattle.rules.specs.Limits.{maxOffset}
-use Rattle.offsets.specs.Pairs.{maxFrameOffset, pairOffset}
+use Rattle.offsets.specs.PairOffsets.{maxFrameOffset, pairOffset}
 use Rattle.offsets.proofs.next_offset.Statement.{statement}
 use Rattle.offsets.proofs.next_offset.Tie as tie
 

@@ -8,7 +8,7 @@ use mir.Val.{toZ, ofZ}
 use Rattle.rules.specs.Levels.{Near}
 use Rattle.rules.proofs.OffsetLaws.{near-more}
 use Rattle.rules.proofs.SignedLaws.{difference-bits-fit, difference-is}
-use Rattle.offsets.specs.Pairs.{maxFrameOffset}
+use Rattle.offsets.specs.PairOffsets.{maxFrameOffset}
 use Rattle.offsets.proofs.turned.Statement.{statement}
 use Rattle.offsets.proofs.turned.Tie as tie
 

@@ -7,7 +7,7 @@ use Rattle.rules.specs.Refusals.{pairRefusal}
 use Rattle.rules.specs.Calls.{toleranceSetup, pairNumber, pairResult}
 use Rattle.rules.proofs.AlignmentLaws.{pair-ok}
 use Rattle.candidates.proofs.WardLaws.{ward-arrangement}
-use Rattle.pair.proofs.PairLaws.{refused-left, accepted-left}
+use Rattle.pair.proofs.PairCallLaws.{refused-left, accepted-left}
 use borrow.Author.Needs.{needs}
 use Rattle.pair.proofs.pair.Statement.{statement}
 use Rattle.pair.proofs.pair.Tie as tie

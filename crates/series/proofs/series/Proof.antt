@@ -8,7 +8,7 @@ use Rattle.rules.specs.Series.{seriesAnswer}
 use Rattle.rules.specs.Calls.{toleranceSettings, seriesNumber}
 use Rattle.rules.proofs.AlignmentLaws.{series-ok}
 use Rattle.candidates.proofs.WardLaws.{ward-arrangement}
-use Rattle.series.proofs.AnswerLaws.{refused-left, accepted-left}
+use Rattle.series.proofs.SeriesAnswerLaws.{refused-left, accepted-left}
 use borrow.Author.Needs.{needs}
 use Rattle.series.proofs.series.Statement.{statement}
 use Rattle.series.proofs.series.Tie as tie

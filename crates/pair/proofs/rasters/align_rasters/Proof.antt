@@ -8,7 +8,7 @@ use Rattle.rules.specs.Levels.{arranged}
 use Rattle.rules.proofs.AlignmentLaws.{level-pixels-at}
 use Rattle.popcount.proofs.TableLaws.{counts-bits}
 use Rattle.align.proofs.WrittenLaws.{converted, converted-kept}
-use Rattle.pair.proofs.PairLaws.{pair-offset, pair-counts, pair-frames}
+use Rattle.pair.proofs.PairCallLaws.{pair-offset, pair-counts, pair-frames}
 use borrow.Author.Needs.{needs}
 use Rattle.pair.proofs.rasters.align_rasters.Statement.{statement}
 use Rattle.pair.proofs.rasters.align_rasters.Tie as tie
