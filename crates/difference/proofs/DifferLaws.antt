@@ -24,8 +24,8 @@ use Rattle.words.specs.Moves.{movedBit, Joined, Interior}
 use Rattle.words.proofs.BitLaws.{bit-and, bit-xor, bit-zero}
 use Rattle.words.proofs.MoveLaws.{gate-lt, gate-ge, row-bit, row-whole, row-past, back-at, back-under, within-back}
 use Rattle.words.proofs.JoinLaws.{MovedIn, raw-word, raw-moved, joined-moved, whole-moved}
-use Rattle.popcount.specs.Rows.{Adds}
-use Rattle.difference.specs.Rows.{disagree, rowDiffer, lineDiffer, movedDiffer, RowsIn, FramesIn}
+use Rattle.popcount.specs.RowCounts.{Adds}
+use Rattle.difference.specs.RowDifferences.{disagree, rowDiffer, lineDiffer, movedDiffer, RowsIn, FramesIn}
 use Rattle.popcount.proofs.AdderLaws.{Bit, off, on, bit-case}
 use Rattle.difference.proofs.KeptLaws.{keptBit, row-case, moved-case, kept-first, kept-partner, kept-word, kept-right}
 use Rattle.popcount.proofs.RowLaws.{word-adds, word-none, adds-more, row-sum, bitAt-in, bits-le, row-room}

@@ -9,8 +9,8 @@ ghost use Prim.Native.Nat.{_+_, _<_, _≤_};
 ghost use Rattle.words.specs.Rows.{WordOf};
 ghost use Rattle.words.specs.Moves.{Moves};
 ghost use Rattle.popcount.specs.Table.{CountsBits};
-ghost use Rattle.popcount.specs.Rows.{Adds};
-ghost use Rattle.difference.specs.Rows.{movedDiffer, RowsIn};
+ghost use Rattle.popcount.specs.RowCounts.{Adds};
+ghost use Rattle.difference.specs.RowDifferences.{movedDiffer, RowsIn};
 
 // The pixels of interior word k at which the two rows differ.
 fn differing_word(

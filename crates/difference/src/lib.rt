@@ -2,11 +2,11 @@
 
 pub mod edges;
 pub mod interior;
-pub mod rows;
+pub mod row_differences;
 
 use popcount::table::bit_counts;
 use refusals::difference_refusal;
-use rows::difference_frame;
+use row_differences::difference_frame;
 use rules::Counted;
 ghost use mathlib.Core.Path.{_≡_};
 ghost use Rattle.rules.specs.Calls.{differenceAnswer};

@@ -1,4 +1,4 @@
 -- Laws of bytes joined, flags gathered and columns turned.
-pub mod JoinLaws
+pub mod GatherJoinLaws
 pub mod TurnLaws
 pub mod GatherLaws

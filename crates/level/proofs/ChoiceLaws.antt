@@ -16,9 +16,9 @@ use Rattle.rules.proofs.DifferenceLaws.{difference-ext}
 use Rattle.rules.proofs.FrameLaws.{row-ext}
 use Rattle.rules.proofs.LevelLaws.{chosen-is, arranged-at, arranged-length}
 use Rattle.candidates.specs.Leading.{countsBy, Leading}
-use Rattle.level_planes.specs.Planes.{PackedAt}
+use Rattle.level_planes.specs.LevelPlanes.{PackedAt}
 use Rattle.level_planes.proofs.PlaneLaws.{planes-kept}
-use Rattle.level_counts.specs.Places.{nineOf, wordsCount}
+use Rattle.level_counts.specs.SlidPlaces.{nineOf, wordsCount}
 use Rattle.level.specs.Choices.{countBy, LevelAligned}
 
 -- The count over the words of two frames' bitmaps is the count of the frames.

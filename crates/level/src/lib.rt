@@ -14,7 +14,7 @@ ghost use Rattle.rules.specs.Frames.{frameOf};
 ghost use Rattle.rules.specs.Bitmaps.{rowWords};
 ghost use Rattle.rules.specs.Levels.{Arrangement, arranged, Near};
 ghost use Rattle.popcount.specs.Table.{CountsBits};
-ghost use Rattle.level_planes.specs.Sides.{Sides};
+ghost use Rattle.level_planes.specs.FrameSides.{Sides};
 ghost use Rattle.level.specs.Choices.{countBy, LevelAligned};
 
 // The level of the frames that begin at places `first` and `second`: its nine counts from place `at`

@@ -1,3 +1,3 @@
 -- Laws of slid bitmaps and of the counts over them.
-pub mod CountLaws
-pub mod SlideLaws
+pub mod CandidateLaws
+pub mod SlidCountLaws

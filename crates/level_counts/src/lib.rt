@@ -13,8 +13,8 @@ ghost use Rattle.rules.specs.Bitmaps.{rowWords};
 ghost use Rattle.rules.specs.Buffers.{RowAt};
 ghost use Rattle.rules.specs.Levels.{candidateAt, Near};
 ghost use Rattle.popcount.specs.Table.{CountsBits};
-ghost use Rattle.level_planes.specs.Sides.{Sides};
-ghost use Rattle.level_counts.specs.Places.{nineOf, columnOf, KeptTo, SlidAt, wordsCount};
+ghost use Rattle.level_planes.specs.FrameSides.{Sides};
+ghost use Rattle.level_counts.specs.SlidPlaces.{nineOf, columnOf, KeptTo, SlidAt, wordsCount};
 
 // The second frame's bitmaps, moved right by dx, into the words after the four.
 fn slide_second(words: &mut [u64], w: usize, h: usize, dx: i32)

@@ -1,4 +1,4 @@
 -- Laws of a level's bitmaps.
-pub mod SideLaws
+pub mod FrameSideLaws
 pub mod ExcludedLaws
 pub mod PlaneLaws

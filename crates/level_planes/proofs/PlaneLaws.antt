@@ -28,7 +28,7 @@ use Rattle.flags.specs.Flags.{outsideBit}
 use Rattle.pack.specs.Outside.{outsidePlane, outsideWord}
 use Rattle.flags.proofs.FlagLaws.{outside-lt}
 use Rattle.pack.proofs.OutsideLaws.{threshold-plane}
-use Rattle.level_planes.specs.Planes.{planesAt, BothAt, PackedAt}
+use Rattle.level_planes.specs.LevelPlanes.{planesAt, BothAt, PackedAt}
 use Rattle.level_planes.specs.Excluded.{Excludes}
 use Rattle.rules.proofs.PairLaws.{threshold-ext}
 

@@ -1,4 +1,4 @@
 -- What the bitmaps of a level require and give, in terms of document 01's definitions.
-pub mod Sides
+pub mod FrameSides
 pub mod Excluded
-pub mod Planes
+pub mod LevelPlanes

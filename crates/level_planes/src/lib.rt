@@ -3,7 +3,7 @@
 pub mod exclusion;
 
 use exclusion::excluded;
-use pack::rows::pack_row;
+use pack::packed_rows::pack_row;
 use refusals::row_words;
 use rules::Setup;
 use threshold::counts::histogram;
@@ -13,8 +13,8 @@ ghost use Prim.Native.Nat.{_+_, _*_, _≤_};
 ghost use lib.ListN.{length, drop};
 ghost use Rattle.rules.specs.Bitmaps.{rowWords, wordOf};
 ghost use Rattle.pack.specs.Outside.{outsidePlane};
-ghost use Rattle.level_planes.specs.Sides.{Sides};
-ghost use Rattle.level_planes.specs.Planes.{BothAt, PackedAt};
+ghost use Rattle.level_planes.specs.FrameSides.{Sides};
+ghost use Rattle.level_planes.specs.LevelPlanes.{BothAt, PackedAt};
 
 // The words of one bitmap.
 pub fn bitmap_words(w: usize, h: usize) -> usize

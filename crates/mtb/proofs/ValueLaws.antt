@@ -34,6 +34,11 @@ pub value-refused : {A : Type 0} (k n : ℕ) (value before : A) → n ≡ k → 
 value-refused zero n value before e l = absurd (l e)
 value-refused (suc k) n value before e l = refl
 
+-- the same, by the number that C gets
+pub value-kept : {A : Type 0} (n : ℕ) (value before : A) → (n ≡ 0 → ⊥) → before ≡ valueAfter n value before
+value-kept zero value before l = absurd (l refl)
+value-kept (suc n) value before l = refl
+
 in-written : (k : ℕ) → refusalIn (written k) ≡ k
 in-written zero = refl
 in-written (suc k) = refl

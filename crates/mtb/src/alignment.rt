@@ -7,7 +7,7 @@ ghost use Rattle.rules.specs.Levels.{wardOrder};
 ghost use Rattle.rules.specs.Calls.{toleranceSetup, PairCall, toleranceSettings, SeriesCall};
 ghost use Rattle.rules.specs.Refusals.{shapeRefusal, greyNeeded, wordsNeeded};
 ghost use Rattle.mtb.specs.Values.{valueAfter, offset};
-use crate::answers::refusal_in;
+use crate::numbers::refusal_in;
 use align_refusals::level_pixels;
 use align_refusals::shape_refusal;
 use pair::pair;

@@ -8,7 +8,7 @@ ghost use Rattle.rules.specs.Differences.{difference};
 ghost use Rattle.rules.specs.Refusals.{shiftRefusal, totalRefusal, differenceRefusal};
 ghost use Rattle.rules.specs.Calls.{bitmapsNumber, thresholdsOut, exclusionsOut, shiftOut, planesOf};
 ghost use Rattle.mtb.specs.Values.{valueAfter};
-use crate::answers::refusal_in;
+use crate::numbers::refusal_in;
 use rules::Counted;
 
 #[no_mangle]
@@ -54,7 +54,7 @@ pub extern "C" fn mtb_shift(
 #[no_mangle]
 pub extern "C" fn mtb_total(w: u32, h: u32, bitmap: &[u64], count: &mut u32) -> u32
     ensures answer { λ n. ⌜ n ≡ totalRefusal w h (length (now (bitmap .entry))) ⌝ }
-    ensures count { λ _. ⌜ now (count .exit) ≡ valueAfter (totalRefusal w h (length (now (bitmap .entry)))) (total w h (bitAt w h (now (bitmap .entry)))) (now (count .entry)) ⌝ }
+    ensures count { λ k. ⌜ now (count .exit) ≡ valueAfter k (total w h (bitAt w h (now (bitmap .entry)))) (now (count .entry)) ⌝ }
 {
     match total::total(w as usize, h as usize, bitmap) {
         Counted::Count(ones) => {
@@ -77,8 +77,15 @@ pub extern "C" fn mtb_difference(
     exclusion2: &[u64],
     count: &mut u32,
 ) -> u32
-    ensures answer { λ n. ⌜ n ≡ differenceRefusal w h (length (now (threshold1 .entry))) (length (now (exclusion1 .entry))) (length (now (threshold2 .entry))) (length (now (exclusion2 .entry))) ⌝ }
-    ensures count { λ _. ⌜ now (count .exit) ≡ valueAfter (differenceRefusal w h (length (now (threshold1 .entry))) (length (now (exclusion1 .entry))) (length (now (threshold2 .entry))) (length (now (exclusion2 .entry)))) (difference w h dx dy (planesOf w h (now (threshold1 .entry)) (now (exclusion1 .entry))) (planesOf w h (now (threshold2 .entry)) (now (exclusion2 .entry)))) (now (count .entry)) ⌝ }
+    ensures answer { λ n. ⌜
+        n ≡ differenceRefusal w h (length (now (threshold1 .entry))) (length (now (exclusion1 .entry)))
+        (length (now (threshold2 .entry))) (length (now (exclusion2 .entry)))
+        ⌝ }
+    ensures count { λ k. ⌜
+        now (count .exit)
+        ≡ valueAfter k (difference w h dx dy (planesOf w h (now (threshold1 .entry)) (now (exclusion1 .entry)))
+        (planesOf w h (now (threshold2 .entry)) (now (exclusion2 .entry)))) (now (count .entry))
+        ⌝ }
 {
     match difference::difference(
         w as usize,

@@ -6,7 +6,7 @@ ghost use Rattle.area.specs.Common.{areaRefusal, commonArea};
 ghost use Rattle.moved.specs.Moved.{movedRefusal, movedOut};
 ghost use Rattle.blink.specs.Blink.{blinkRefusal, rowStart, blinkRow};
 ghost use Rattle.mtb.specs.Values.{valueAfter};
-use crate::answers::refusal_in;
+use crate::numbers::refusal_in;
 use area::Common;
 use area::common_area;
 use blink::Row;
@@ -26,10 +26,10 @@ pub extern "C" fn mtb_common_area(
     bottom: &mut u32,
 ) -> u32
     ensures answer { λ k. ⌜ k ≡ areaRefusal w h n (now (offsets .entry)) ⌝ }
-    ensures left { λ _. ⌜ now (left .exit) ≡ valueAfter (areaRefusal w h n (now (offsets .entry))) (commonArea w h n (now (offsets .entry)) .left) (now (left .entry)) ⌝ }
-    ensures right { λ _. ⌜ now (right .exit) ≡ valueAfter (areaRefusal w h n (now (offsets .entry))) (commonArea w h n (now (offsets .entry)) .right) (now (right .entry)) ⌝ }
-    ensures top { λ _. ⌜ now (top .exit) ≡ valueAfter (areaRefusal w h n (now (offsets .entry))) (commonArea w h n (now (offsets .entry)) .top) (now (top .entry)) ⌝ }
-    ensures bottom { λ _. ⌜ now (bottom .exit) ≡ valueAfter (areaRefusal w h n (now (offsets .entry))) (commonArea w h n (now (offsets .entry)) .bottom) (now (bottom .entry)) ⌝ }
+    ensures left { λ k. ⌜ now (left .exit) ≡ valueAfter k (commonArea w h n (now (offsets .entry)) .left) (now (left .entry)) ⌝ }
+    ensures right { λ k. ⌜ now (right .exit) ≡ valueAfter k (commonArea w h n (now (offsets .entry)) .right) (now (right .entry)) ⌝ }
+    ensures top { λ k. ⌜ now (top .exit) ≡ valueAfter k (commonArea w h n (now (offsets .entry)) .top) (now (top .entry)) ⌝ }
+    ensures bottom { λ k. ⌜ now (bottom .exit) ≡ valueAfter k (commonArea w h n (now (offsets .entry)) .bottom) (now (bottom .entry)) ⌝ }
 {
     match common_area(w as usize, h as usize, n as usize, offsets) {
         Common::Area(area) => {
@@ -64,8 +64,8 @@ pub extern "C" fn mtb_blink_row<'a>(
     bytes: &mut usize,
 ) -> u32
     ensures answer { λ n. ⌜ n ≡ blinkRefusal w h y (length (now (first .entry))) (length (now (second .entry))) ⌝ }
-    ensures start { λ _. ⌜ now (start .exit) ≡ valueAfter (blinkRefusal w h y (length (now (first .entry))) (length (now (second .entry)))) (rowStart w y) (now (start .entry)) ⌝ }
-    ensures bytes { λ _. ⌜ now (bytes .exit) ≡ valueAfter (blinkRefusal w h y (length (now (first .entry))) (length (now (second .entry)))) (length (blinkRow w h y other (now (first .entry)) (now (second .entry)))) (now (bytes .entry)) ⌝ }
+    ensures start { λ k. ⌜ now (start .exit) ≡ valueAfter k (rowStart w y) (now (start .entry)) ⌝ }
+    ensures bytes { λ k. ⌜ now (bytes .exit) ≡ valueAfter k (length (blinkRow w h y other (now (first .entry)) (now (second .entry)))) (now (bytes .entry)) ⌝ }
 {
     match blink_start(w as usize, h as usize, y as usize, first, second) {
         Row::At(from) => {

@@ -1,2 +1,2 @@
 -- Laws of the lists of offsets.
-pub mod PairLaws
+pub mod PairOffsetLaws

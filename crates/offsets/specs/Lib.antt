@@ -1,2 +1,2 @@
 -- Where the offsets of pairs stand in a list.
-pub mod Pairs
+pub mod PairOffsets

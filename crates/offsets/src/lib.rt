@@ -8,7 +8,7 @@ ghost use Rattle.rules.specs.Limits.{maxOffset};
 ghost use Rattle.rules.specs.Frames.{writtenOver};
 ghost use Rattle.rules.specs.Levels.{added, Near};
 ghost use Rattle.rules.specs.Series.{opposite, frameOffset, offsetList};
-ghost use Rattle.offsets.specs.Pairs.{maxFrameOffset, pairOffset, withOffset, SmallPairs};
+ghost use Rattle.offsets.specs.PairOffsets.{maxFrameOffset, pairOffset, withOffset, SmallPairs};
 
 // Writes offset k of a list. (The language stores no field directly, only a local.)
 pub fn put_offset(list: &mut [i32], k: usize, m: Offset)

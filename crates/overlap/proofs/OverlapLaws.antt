@@ -18,9 +18,9 @@ use Rattle.rules.proofs.SumLaws.{order, sum-ext, sum-zero, sum-split, sum-none,
 use Rattle.words.specs.Rows.{WordOf, rowBit, bias, biasOf}
 use Rattle.words.proofs.MoveLaws.{gate-lt, back-at}
 use Rattle.words.specs.Moves.{movedBit}
-use Rattle.popcount.specs.Rows.{Adds}
-use Rattle.difference.specs.Rows.{disagree, rowDiffer, lineDiffer}
-use Rattle.overlap.specs.Runs.{runBit, runDiffer, Clean}
+use Rattle.popcount.specs.RowCounts.{Adds}
+use Rattle.difference.specs.RowDifferences.{disagree, rowDiffer, lineDiffer}
+use Rattle.overlap.specs.WordRuns.{runBit, runDiffer, Clean}
 use Rattle.popcount.proofs.RowLaws.{sum-stop, adds-more, row-words-le}
 use Rattle.difference.proofs.DifferLaws.{disagree-lt, disagree-right, mixed-bit, line-before, line-past, line-paired, frame-whole}
 

@@ -1,2 +1,2 @@
 -- Definitions that the contracts cite.
-pub mod Runs
+pub mod WordRuns

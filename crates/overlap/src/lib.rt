@@ -16,9 +16,9 @@ ghost use Rattle.rules.specs.Differences.{difference};
 ghost use Rattle.rules.specs.Calls.{planesOf};
 ghost use Rattle.words.specs.Rows.{WordOf};
 ghost use Rattle.popcount.specs.Table.{CountsBits};
-ghost use Rattle.popcount.specs.Rows.{Adds};
-ghost use Rattle.difference.specs.Rows.{FramesIn};
-ghost use Rattle.overlap.specs.Runs.{runDiffer, RunsIn, Clean};
+ghost use Rattle.popcount.specs.RowCounts.{Adds};
+ghost use Rattle.difference.specs.RowDifferences.{FramesIn};
+ghost use Rattle.overlap.specs.WordRuns.{runDiffer, RunsIn, Clean};
 
 // The pixels at which word k of the two runs differs.
 fn run_word(

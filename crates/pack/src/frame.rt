@@ -1,6 +1,6 @@
 // Both bitmaps of a grey frame.
 
-use crate::rows::pack_row;
+use crate::packed_rows::pack_row;
 ghost use mathlib.Core.Path.{_≡_};
 ghost use Prim.Native.Nat.{_*_, _≤_};
 ghost use lib.ListN.{length};

@@ -7,7 +7,7 @@ use rules::Written;
 
 pub mod frame;
 pub mod interval;
-pub mod rows;
+pub mod packed_rows;
 
 ghost use mathlib.Core.Path.{_≡_};
 ghost use Rattle.rules.specs.Answers.{written};

@@ -1,2 +1,2 @@
 -- Laws of the conversions and of the answer as the call gives it.
-pub mod PairLaws
+pub mod PairCallLaws

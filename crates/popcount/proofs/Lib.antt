@@ -3,4 +3,4 @@ pub mod EntryLaws
 pub mod TableLaws
 pub mod RowLaws
 pub mod AdderLaws
-pub mod AnswerLaws
+pub mod CountAnswerLaws

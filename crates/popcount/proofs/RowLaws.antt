@@ -13,7 +13,7 @@ use Rattle.rules.proofs.FrameLaws.{row-fits}
 use Rattle.words.specs.Rows.{WordOf, rowBit}
 use Rattle.words.proofs.BitLaws.{bit-lt, bit-zero}
 use Rattle.words.proofs.MoveLaws.{gate-lt, bitAt-row}
-use Rattle.popcount.specs.Rows.{Adds}
+use Rattle.popcount.specs.RowCounts.{Adds}
 
 -- one word more of a row
 pub word-more : (f : ℕ → ℕ) (k v : ℕ) → WordOf f k v → Adds f k (k + 1) (sum 64 (bit v))

@@ -1,3 +1,3 @@
 -- Definitions that the contracts cite.
 pub mod Table
-pub mod Rows
+pub mod RowCounts

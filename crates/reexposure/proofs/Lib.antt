@@ -1,4 +1,4 @@
 -- The proof of the re-exposure theorem, lowest first.
 pub mod Links
-pub mod Pairs
+pub mod SamePairs
 pub mod Theorem

@@ -12,7 +12,7 @@ use Rattle.rules.specs.Levels.{arranged, ExclusionRule, pair, Near, Every}
 use Rattle.rules.specs.Series.{Settings, greyOf, pairOf, frameOffset, answerOf, answerBy}
 use Rattle.reexposure.specs.Reexposure.{Reexposed, Bytes, Sound, Bounded, ByOrder, Demand3}
 use Rattle.reexposure.proofs.Links.{Link, Linked}
-use Rattle.reexposure.proofs.Pairs.{linked-kept, answer-ext}
+use Rattle.reexposure.proofs.SamePairs.{linked-kept, answer-ext}
 use Rattle.rules.proofs.PairLaws.{pair-by}
 use Rattle.rules.proofs.OffsetLaws.{near-pair, near-arranged, near-frame, offset-at}
 

@@ -41,7 +41,9 @@ pub examples-hold : ExamplesHold
 unfolding sum sumPixels frameOf grey insert sorted secondSmallest atMost reaches least threshold
 examples-hold =
     ap₂
-    (λ (p r : List ℤ). one (grey 255 255 255) ∷ one (grey 255 0 0) ∷ one (grey 0 255 0) ∷ one (grey 0 0 255) ∷ one (secondSmallest 7 3 9 3) ∷ one (threshold 4 1 50 oneToFour) ∷ one (threshold 4 1 17 oneToFour) ∷ one (threshold 4 1 83 oneToFour) ∷ p ∷ r ∷ [])
+    (λ (p r : List ℤ).
+    one (grey 255 255 255) ∷ one (grey 255 0 0) ∷ one (grey 0 255 0) ∷ one (grey 0 0 255) ∷ one (secondSmallest 7 3 9 3)
+    ∷ one (threshold 4 1 50 oneToFour) ∷ one (threshold 4 1 17 oneToFour) ∷ one (threshold 4 1 83 oneToFour) ∷ p ∷ r ∷ [])
     printed
     reexposed
 

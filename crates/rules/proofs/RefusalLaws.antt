@@ -68,15 +68,15 @@ size-ok w h e =
 pub size-known : (w h : ℕ) (t : Bool) → t ≡ badSize w h → t ≡ false → SizeOk w h
 size-known w h t e z = size-ok w h (rw (sym e ∙ z))
 
-pub length-is : (needed length : ℕ) → wrongLength needed length ≡ false → length ≡ needed
-length-is needed length e = eqb-true length needed (not-false (eqb length needed) e)
+pub length-is : (needed given : ℕ) → wrongLength needed given ≡ false → given ≡ needed
+length-is needed given e = eqb-true given needed (not-false (eqb given needed) e)
 
 -- 9 and 10 that are not given.
-pub length-no : (needed length : ℕ) → 9 when wrongLength needed length ≡ 0 → length ≡ needed
-length-no needed length e = length-is needed length (when-no 9 (wrongLength needed length) (omega arith) e)
+pub length-no : (needed given : ℕ) → 9 when wrongLength needed given ≡ 0 → given ≡ needed
+length-no needed given e = length-is needed given (when-no 9 (wrongLength needed given) (omega arith) e)
 
-pub room-no : (needed length : ℕ) → 10 when short needed length ≡ 0 → needed ≤ length
-room-no needed length e = ltb-false length needed (when-no 10 (short needed length) (omega arith) e)
+pub room-no : (needed given : ℕ) → 10 when short needed given ≡ 0 → needed ≤ given
+room-no needed given e = ltb-false given needed (when-no 10 (short needed given) (omega arith) e)
 
 pub grey-ok : (w h raster grey : ℕ) → greyRefusal w h raster grey ≡ 0 → GreyOk w h raster grey
 unfolding greyRefusal

@@ -1,2 +1,2 @@
 -- The answer as the call gives it.
-pub mod AnswerLaws
+pub mod SeriesAnswerLaws

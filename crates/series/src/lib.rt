@@ -1,10 +1,10 @@
 // Alignment of a series: the offered call.
 
-mod frames;
+mod aligning;
 
 use align_refusals::series_refusal;
+use aligning::align_series;
 use candidates::WARD;
-use frames::align_series;
 use refusals::tolerance_refusal;
 use rules::Exclusion;
 use rules::Setup;

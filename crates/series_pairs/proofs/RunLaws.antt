@@ -31,9 +31,9 @@ use Rattle.grey.specs.GreyPlaces.{greyAt}
 use Rattle.align.specs.Aligns.{Frames, Aligns, alignedIn}
 use Rattle.align.proofs.AlignLaws.{counts-length}
 use Rattle.align.proofs.WrittenLaws.{converted, row-written}
-use Rattle.offsets.specs.Pairs.{withOffset, SmallPairs}
-use Rattle.offsets.proofs.PairLaws.{put-next, written-length, written-pair}
-use Rattle.series_pairs.specs.Runs.{placeOf, frameAt, Stands, pairAt, setupAt, pairsOf, Room, PairsOk, Ran, Run, AllRan}
+use Rattle.offsets.specs.PairOffsets.{withOffset, SmallPairs}
+use Rattle.offsets.proofs.PairOffsetLaws.{put-next, written-length, written-pair}
+use Rattle.series_pairs.specs.PairRuns.{placeOf, frameAt, Stands, pairAt, setupAt, pairsOf, Room, PairsOk, Ran, Run, AllRan}
 
 -- The two places.
 pub place-even : (k area : ℕ) → k % 2 ≡ 0 → placeOf k area ≡ 0

@@ -1,2 +1,2 @@
 -- What the pairs of a series leave in the lent buffers.
-pub mod Runs
+pub mod PairRuns

@@ -9,7 +9,7 @@ ghost use mathlib.Core.Path.{_≡_};
 ghost use lib.ListN.{length};
 ghost use Rattle.rules.specs.Levels.{Arrangement, arranged};
 ghost use Rattle.popcount.specs.Table.{CountsBits};
-ghost use Rattle.series_pairs.specs.Runs.{placeOf, Stands, pairAt, pairsOf, Room, PairsOk, Ran, AllRan};
+ghost use Rattle.series_pairs.specs.PairRuns.{placeOf, Stands, pairAt, pairsOf, Room, PairsOk, Ran, AllRan};
 
 // Frame k's place in the lent grey memory. The next frame's is the other one, so each frame's grey
 // is worked out once, and stays while it is its neighbour's turn.

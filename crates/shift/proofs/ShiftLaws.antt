@@ -22,7 +22,7 @@ use Rattle.words.specs.Rows.{bias, biasOf}
 use Rattle.words.specs.Moves.{movedWord, movedRow, Moves}
 use Rattle.words.proofs.MoveLaws.{gate-lt, gate-ge, back-at, back-under, within-zero, within-before, within-at, within-past}
 use Rattle.words.proofs.MovedRowLaws.{word-shifted}
-use Rattle.shift.specs.Places.{blank, placedRow, placedRows}
+use Rattle.shift.specs.ShiftPlaces.{blank, placedRow, placedRows}
 
 -- ---- one row
 

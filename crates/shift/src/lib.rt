@@ -5,7 +5,7 @@ ghost use Rattle.rules.specs.Calls.{shiftAnswer, shiftOut};
 use refusals::shift_refusal;
 use rules::Written;
 
-pub mod rows;
+pub mod moved_rows;
 
 // Shift of a lent bitmap into a lent one, by any two signed numbers.
 pub fn shift(w: usize, h: usize, dx: i32, dy: i32, bitmap: &[u64], out: &mut [u64]) -> Written
@@ -16,6 +16,6 @@ pub fn shift(w: usize, h: usize, dx: i32, dy: i32, bitmap: &[u64], out: &mut [u6
     if n != 0 {
         return Written::Refused(n);
     }
-    rows::shift_bitmap(w, h, dx, dy, bitmap, out);
+    moved_rows::shift_bitmap(w, h, dx, dy, bitmap, out);
     Written::Done
 }

@@ -11,7 +11,7 @@ use Rattle.rules.specs.Bitmaps.{bit, bitAt, rowWords}
 use Rattle.rules.proofs.SumLaws.{gate-le, sum-ext}
 use Rattle.words.specs.Rows.{WordOf, rowBit}
 use Rattle.words.proofs.MoveLaws.{row-past, row-last, bitAt-row}
-use Rattle.popcount.specs.Rows.{Adds}
+use Rattle.popcount.specs.RowCounts.{Adds}
 use Rattle.popcount.proofs.RowLaws.{row-sum, word-next, bits-le, rowBit-lt, bitAt-in}
 
 -- a row of which the last word, with `rest` pixels, is still to come

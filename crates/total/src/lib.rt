@@ -1,10 +1,10 @@
 // The number of 1 bits of a lent bitmap.
 
-pub mod rows;
+pub mod row_totals;
 
 use popcount::table::bit_counts;
 use refusals::total_refusal;
-use rows::total_frame;
+use row_totals::total_frame;
 use rules::Counted;
 ghost use mathlib.Core.Path.{_≡_};
 ghost use Rattle.rules.specs.Calls.{totalAnswer};

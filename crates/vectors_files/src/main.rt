@@ -77,7 +77,7 @@ fn refused_part(n: u32, handed: usize) -> u32 {
     if handed == 0 { n } else { DIFFERS }
 }
 
-fn sizeRead(answer: SizeRead, expected: Values, same: bool, handed: usize) -> u32 {
+fn size_answer(answer: SizeRead, expected: Values, same: bool, handed: usize) -> u32 {
     match answer {
         SizeRead::Frame(size) => {
             number_when(same && size.w == expected.one && size.h == expected.two)
@@ -91,10 +91,10 @@ fn read_number(data: &[u8], at: usize) -> u32 {
     let expected = values_of(data, at);
     let raster = ppm_read::p6_raster(file);
     let same = part_is(raster, file, expected.three, expected.four);
-    sizeRead(ppm_read::p6_size(file), expected, same, raster.len())
+    size_answer(ppm_read::p6_size(file), expected, same, raster.len())
 }
 
-fn fileWritten(answer: FileWritten, bytes: usize) -> u32 {
+fn write_answer(answer: FileWritten, bytes: usize) -> u32 {
     match answer {
         FileWritten::Bytes(n) => number_when(n == bytes),
         FileWritten::Refused(n) => n,
@@ -105,7 +105,7 @@ fn write_number(data: &[u8], at: usize, out: &mut [u8]) -> u32 {
     let sides = sides_of(data, at);
     let raster = input(data, at, INPUT1);
     let answer = ppm_write::p6_write(sides.w, sides.h, raster, out);
-    fileWritten(answer, size(data, at, VALUE1))
+    write_answer(answer, size(data, at, VALUE1))
 }
 
 fn common(answer: Common, expected: Values) -> u32 {

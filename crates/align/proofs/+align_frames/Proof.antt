@@ -71,7 +71,8 @@ returns t c =
     let b = c .before .before .before .before .before .before .before .before .before .before .before .before in
     let a = b .args in
     let z = c .before .before .before .before .align-level in
-    aligned-one (arranged (a .order .now)) (a .setup) (a .first) (a .second) (a .at) (a .grey .now) (a .counts .now) (z .last .1 .1 .1 .1 .1 .1 .0) (z .result) (c .before .before .before .before .before .before .before .before .if1 .taken) (z .ensures)
+    aligned-one (arranged (a .order .now)) (a .setup) (a .first) (a .second) (a .at) (a .grey .now) (a .counts .now) (z .last .1 .1 .1 .1 .1 .1 .0) (z .result)
+    (c .before .before .before .before .before .before .before .before .if1 .taken) (z .ensures)
 
 mul-rest : (t : ℕ) → align-frames-lts.Need-mul-rest (claims t) (align-frames-at t) align-frames.Post
 mul-rest t c =
@@ -154,7 +155,10 @@ align-frames-requires t c κs =
       omega (arith, b .pre .0),
       (
         rw size (frames-next (a .first) (a .second) (a .setup) (length (a .grey .now)) (b .pre .1 .0) some),
-        (words-room (a .first) (a .second) (a .setup) (length (a .grey .now)) (b .pre .1 .0) (length (a .words .now)) (b .pre .1 .1 .0), (let l = b .pre .1 .1 .1 .0 in omega arith, (b .pre .1 .1 .1 .1 .0, b .pre .1 .1 .1 .1 .1))),
+        (
+          words-room (a .first) (a .second) (a .setup) (length (a .grey .now)) (b .pre .1 .0) (length (a .words .now)) (b .pre .1 .1 .0),
+          (let l = b .pre .1 .1 .1 .0 in omega arith, (b .pre .1 .1 .1 .1 .0, b .pre .1 .1 .1 .1 .1)),
+        ),
       ),
     )
 
@@ -191,12 +195,14 @@ add-place t c =
 
 align-level-requires-2 : (t : ℕ) → align-frames-lts.Need-align-level-requires-2 (claims t) (align-frames-at t) align-frames.Post
 align-level-requires-2 t c κs =
-    let b = c .before .before .before .before .before .before .before .before .before .before .before .before .before .before .before .before .before .before .before .before .before .before .before .before .before .before in
+    let b = c .before .before .before .before .before .before .before .before .before .before .before .before .before .before .before .before .before .before .before .before
+    .before .before .before .before .before .before in
     let a = b .args in
     let f = b .pre .1 .0 in
     let u = c .before .before .before .before .before .before .before .before .before .before .align-frames in
     let g2 = c .before .before .before .before .before .before .before .before .before .before .before .before .before .before .before .before .halve-within2 .last .0 in
-    let e = c .before .before .before .before .before .before .before .before .before .before .before .before .before .before .before .before .before .before .before .before .halve-within .ensures .len in
+    let e = c .before .before .before .before .before .before .before .before .before .before .before .before .before .before .before .before .before .before .before .before
+    .halve-within .ensures .len in
     let d = c .before .before .before .before .before .before .before .before .before .before .before .before .before .before .before .before .halve-within2 .ensures .len in
     let size : length (returned (a .setup) g2 (u .last .0)) ≡ length g2 =
     same-len-mid (2 * (a .setup .w * a .setup .h)) (length g2 - 2 * (a .setup .w * a .setup .h)) g2 (u .last .0) (u .kept .0) in
@@ -221,24 +227,30 @@ align-level-requires-2 t c κs =
 
 same-length-4 : (t : ℕ) → align-frames-lts.Need-same-length-4 (claims t) (align-frames-at t) align-frames.Post
 same-length-4 t c =
-    let a = c .before .before .before .before .before .before .before .before .before .before .before .before .before .before .before .before .before .before .before .before .before .before .before .before .before .before .before .before .before .before .before .args in
+    let a = c .before .before .before .before .before .before .before .before .before .before .before .before .before .before .before .before .before .before .before .before
+    .before .before .before .before .before .before .before .before .before .before .before .args in
     let h2 = c .before .before .before .before .before .before .before .before .before .before .before .before .before .before .before .before .before .before .before .before .before .halve-within2 in
     let u = c .before .before .before .before .before .before .before .before .before .before .before .before .before .before .before .align-frames in
     same-len-mid (2 * (a .setup .w * a .setup .h)) (length (h2 .last .0) - 2 * (a .setup .w * a .setup .h)) (h2 .last .0) (u .last .0) (u .kept .0)
-    ∙ h2 .ensures .len ∙ c .before .before .before .before .before .before .before .before .before .before .before .before .before .before .before .before .before .before .before .before .before .before .before .before .before .halve-within .ensures .len
+    ∙ h2 .ensures .len ∙ c .before .before .before .before .before .before .before .before .before .before .before .before .before .before .before .before .before .before .before
+    .before .before .before .before .before .before .halve-within .ensures .len
 
 same-length-5 : (t : ℕ) → align-frames-lts.Need-same-length-5 (claims t) (align-frames-at t) align-frames.Post
-same-length-5 t c = c .before .before .before .before .align-level2 .kept .1 .1 .1 .1 .0 ∙ c .before .before .before .before .before .before .before .before .before .before .before .before .before .before .before .align-frames .kept .1 .1 .1 .1 .0
+same-length-5 t c = c .before .before .before .before .align-level2 .kept .1 .1 .1 .1 .0
+    ∙ c .before .before .before .before .before .before .before .before .before .before .before .before .before .before .before .align-frames .kept .1 .1 .1 .1 .0
 
 same-length-6 : (t : ℕ) → align-frames-lts.Need-same-length-6 (claims t) (align-frames-at t) align-frames.Post
-same-length-6 t c = c .before .before .before .before .align-level2 .kept .1 .1 .1 .1 .1 .1 .0 ∙ c .before .before .before .before .before .before .before .before .before .before .before .before .before .before .before .align-frames .kept .1 .1 .1 .1 .1 .0
+same-length-6 t c = c .before .before .before .before .align-level2 .kept .1 .1 .1 .1 .1 .1 .0
+    ∙ c .before .before .before .before .before .before .before .before .before .before .before .before .before .before .before .align-frames .kept .1 .1 .1 .1 .1 .0
 
 returns-2 : (t : ℕ) → align-frames-lts.Need-returns-2 (claims t) (align-frames-at t) align-frames.Post
 returns-2 t c =
-    let b = c .before .before .before .before .before .before .before .before .before .before .before .before .before .before .before .before .before .before .before .before .before .before .before .before .before .before .before .before .before .before .before in
+    let b = c .before .before .before .before .before .before .before .before .before .before .before .before .before .before .before .before .before .before .before .before
+    .before .before .before .before .before .before .before .before .before .before .before in
     let a = b .args in
     let f = b .pre .1 .0 in
-    let h1 = c .before .before .before .before .before .before .before .before .before .before .before .before .before .before .before .before .before .before .before .before .before .before .before .before .before .halve-within in
+    let h1 = c .before .before .before .before .before .before .before .before .before .before .before .before .before .before .before .before .before .before .before .before
+    .before .before .before .before .before .halve-within in
     let h2 = c .before .before .before .before .before .before .before .before .before .before .before .before .before .before .before .before .before .before .before .before .before .halve-within2 in
     let u = c .before .before .before .before .before .before .before .before .before .before .before .before .before .before .before .align-frames in
     let two = c .before .before .before .before .before .before .before .before .doubled in
@@ -246,7 +258,8 @@ returns-2 t c =
     let k = frames-room (a .first) (a .second) (a .setup) (length (a .grey .now)) (b .pre .1 .0) in
     let e = h1 .ensures .len in
     let d = h2 .ensures .len in
-    let some : 0 < a .setup .s = (let l = c .before .before .before .before .before .before .before .before .before .before .before .before .before .before .before .before .before .before .before .before .before .before .before .before .before .before .before .if1 .left in omega arith) in
+    let some : 0 < a .setup .s = (let l = c .before .before .before .before .before .before .before .before .before .before .before .before .before .before .before .before .before
+    .before .before .before .before .before .before .before .before .before .before .if1 .left in omega arith) in
     aligned-more (arranged (a .order .now)) (a .setup) (a .first) (a .second) (a .grey .now) (h1 .last .0) (h2 .last .0) some (f .one) (f .two) (h1 .ensures) (h2 .ensures)
     (a .at) (u .last .0) (a .counts .now) (u .last .1 .1 .1 .1 .1 .0) (z .last .1 .1 .1 .1 .1 .1 .0) (a .at + 9 * a .setup .s) (u .result) (two .result) (z .result)
     (omega arith) (u .ensures) (two .ensures) refl (z .ensures)

@@ -10,7 +10,7 @@ use Rattle.rules.specs.Differences.{difference}
 use Rattle.rules.specs.Calls.{planesOf}
 use Rattle.rules.specs.Accepted.{DifferenceOk}
 use Rattle.rules.proofs.RefusalLaws.{difference-ok}
-use Rattle.popcount.proofs.AnswerLaws.{refused, accepted}
+use Rattle.popcount.proofs.CountAnswerLaws.{refused, accepted}
 use Rattle.difference.proofs.difference.Statement.{statement}
 use Rattle.difference.proofs.difference.Tie as tie
 

@@ -3,8 +3,8 @@ use mathlib.Core.Path.{_∙_}
 use native.Mathlib.Omega.{arith}
 use lib.ListN.{length-take, length-drop}
 use Rattle.rules.proofs.SignedLaws.{small-fits}
-use Rattle.level_counts.proofs.CountLaws.{parts-clean, parts-count}
-use Rattle.level_counts.proofs.SlideLaws.{slid-count}
+use Rattle.level_counts.proofs.CandidateLaws.{parts-clean, parts-count}
+use Rattle.level_counts.proofs.SlidCountLaws.{slid-count}
 use borrow.Author.Needs.{needs}
 use Rattle.level_counts.proofs.count_slid.Statement.{statement}
 use Rattle.level_counts.proofs.count_slid.Tie as tie
@@ -63,7 +63,13 @@ overlap-frame-requires c κs =
       (
         p .0 .height,
         (
-          record { threshold1 = omega arith; exclusion1 = simp (length-take, length-drop) (omega arith); threshold2 = simp (length-take, length-drop) (omega arith); exclusion2 = simp (length-take, length-drop) (omega arith) },
+          record {
+            threshold1 = omega arith;
+            exclusion1 = simp (length-take, length-drop) (omega arith);
+            threshold2 = simp (length-take, length-drop)
+                (omega arith);
+            exclusion2 = simp (length-take, length-drop) (omega arith);
+          },
           (parts-clean (s .args .w) (s .args .h) (b .result) (s .args .words .now) (b .ensures) (p .1 .1 .1 .0 .clean), p .1 .1 .1 .1),
         ),
       ),

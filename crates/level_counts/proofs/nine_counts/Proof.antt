@@ -7,9 +7,9 @@ use Rattle.rules.specs.Bitmaps.{rowWords}
 use Rattle.rules.specs.Buffers.{RowAt}
 use Rattle.rules.proofs.FrameLaws.{row-none, row-join}
 use Rattle.rules.specs.Levels.{candidateAt}
-use Rattle.level_counts.specs.Places.{KeptTo, SlidAt, wordsCount, nineOf, columnOf}
-use Rattle.level_counts.proofs.CountLaws.{candidate-dx}
-use Rattle.level_counts.proofs.SlideLaws.{count-kept}
+use Rattle.level_counts.specs.SlidPlaces.{KeptTo, SlidAt, wordsCount, nineOf, columnOf}
+use Rattle.level_counts.proofs.CandidateLaws.{candidate-dx}
+use Rattle.level_counts.proofs.SlidCountLaws.{count-kept}
 use native.Mathlib.Omega.{arith}
 use borrow.Author.Needs.{needs}
 use Rattle.level_counts.proofs.nine_counts.Statement.{statement}
@@ -78,7 +78,8 @@ loop-again c =
       search needs,
       (
         kept,
-        rw e at (row-join (a .at) (nineOf count (a .centre)) (columnOf (wordsCount (a .w) (a .h) (slide .last .0)) (a .centre) (l .i)) (a .counts .now) (l .counts) end (3 * l .i) 3 (l .inv .1 .1) (three .ensures)
+        rw e at (row-join (a .at) (nineOf count (a .centre)) (columnOf (wordsCount (a .w) (a .h) (slide .last .0)) (a .centre) (l .i)) (a .counts .now) (l .counts) end
+            (3 * l .i) 3 (l .inv .1 .1) (three .ensures)
             (λ j k. count-kept (a .w) (a .h) (a .words .now) (slide .last .0) kept (candidateAt (a .centre) (3 * l .i + j)))),
       ),
     )

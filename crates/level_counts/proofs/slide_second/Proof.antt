@@ -2,7 +2,7 @@
 use mir.Syntax.{w32}
 use mir.Val.{toZ, ofZ}
 use mir.Facts.{toZ-ofZ}
-use Rattle.level_counts.proofs.SlideLaws.{slid-second}
+use Rattle.level_counts.proofs.SlidCountLaws.{slid-second}
 use borrow.Author.Needs.{needs}
 use Rattle.level_counts.proofs.slide_second.Statement.{statement}
 use Rattle.level_counts.proofs.slide_second.Tie as tie

@@ -5,8 +5,8 @@ use Rattle.rules.specs.declared.Offset.{Offset}
 use Rattle.rules.specs.Buffers.{RowAt}
 use Rattle.rules.proofs.FrameLaws.{row-none, row-more}
 use Rattle.rules.specs.Levels.{candidateAt}
-use Rattle.level_counts.specs.Places.{wordsCount, columnOf}
-use Rattle.level_counts.proofs.CountLaws.{candidate-near, column-dx}
+use Rattle.level_counts.specs.SlidPlaces.{wordsCount, columnOf}
+use Rattle.level_counts.proofs.CandidateLaws.{candidate-near, column-dx}
 use native.Mathlib.Omega.{arith}
 use borrow.Author.Needs.{needs}
 use Rattle.level_counts.proofs.three_counts.Statement.{statement}

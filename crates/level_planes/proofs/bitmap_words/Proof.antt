@@ -1,7 +1,7 @@
 -- The product of a row's words and the height fits, by the limits of the sides.
 use mathlib.Core.Path.{ap}
 use Prim.Native.Nat.{ℕ, _*_}
-use Rattle.level_planes.proofs.SideLaws.{sized}
+use Rattle.level_planes.proofs.FrameSideLaws.{sized}
 use native.Mathlib.Omega.{arith}
 use borrow.Author.Needs.{needs}
 use Rattle.level_planes.proofs.bitmap_words.Statement.{statement}

@@ -2,7 +2,7 @@
 use mathlib.Core.Path.{_≡_, _∙_}
 use Prim.Native.Nat.{_*_, _≤_}
 use lib.ListN.{length, take, drop}
-use Rattle.level_planes.proofs.SideLaws.{sized}
+use Rattle.level_planes.proofs.FrameSideLaws.{sized}
 use Rattle.level_planes.proofs.PlaneLaws.{part-length, part-threshold, packed-at}
 use native.Mathlib.Omega.{arith}
 use borrow.Author.Needs.{needs}

@@ -6,7 +6,7 @@ use Rattle.rules.specs.Bitmaps.{rowWords, wordOf}
 use Rattle.rules.proofs.FrameLaws.{row-fits}
 use Rattle.pack.specs.Outside.{outsidePlane}
 use Rattle.pack.proofs.OutsideLaws.{row-place}
-use Rattle.level_planes.specs.Planes.{BothAt}
+use Rattle.level_planes.specs.LevelPlanes.{BothAt}
 use Rattle.level_planes.proofs.PlaneLaws.{both-none, packed-more}
 use native.Mathlib.Omega.{arith}
 use borrow.Author.Needs.{needs}
@@ -40,8 +40,10 @@ loop-holds c =
 
 -- a row's places in the frame and in a bitmap
 inside : (c : tie.In-loop Inv-loop μ-loop)
-    → (c .before .loop .y * c .before .before .before .before .before .before .args .w + c .before .before .before .before .before .before .args .w ≤ c .before .before .before .before .before .before .args .w * c .before .before .before .before .before .before .args .h)
-    × (c .before .loop .y * c .before .before .before .row-words .result + rowWords (c .before .before .before .before .before .before .args .w) ≤ rowWords (c .before .before .before .before .before .before .args .w) * c .before .before .before .before .before .before .args .h)
+    → (c .before .loop .y * c .before .before .before .before .before .before .args .w + c .before .before .before .before .before .before .args .w ≤ c .before .before .before
+    .before .before .before .args .w * c .before .before .before .before .before .before .args .h)
+    × (c .before .loop .y * c .before .before .before .row-words .result + rowWords (c .before .before .before .before .before .before .args .w) ≤ rowWords
+    (c .before .before .before .before .before .before .args .w) * c .before .before .before .before .before .before .args .h)
 inside c =
     let a = c .before .before .before .before .before .before .args in
     let l : c .before .loop .y < a .h = omega arith in
@@ -64,13 +66,34 @@ pack-row-requires : tie.Need-pack-row-requires Inv-loop μ-loop
 pack-row-requires c κs = omega (arith, inside (c .before), c .before .before .before .before .before .before .before .pre, c .before .before .loop .inv .1 .len)
 
 mul-pack-row-2 : tie.Need-mul-pack-row-2 Inv-loop μ-loop
-mul-pack-row-2 c = omega (arith, inside (c .before .before .before .before .before), c .before .before .before .before .before .before .before .before .before .before .before .pre, c .before .before .before .before .before .before .before .bitmap-words .ensures)
+mul-pack-row-2 c = omega (
+  arith,
+  inside (c .before .before .before .before .before),
+  c .before .before .before .before .before .before .before .before .before .before .before
+      .pre,
+  c .before .before .before .before .before .before .before .bitmap-words .ensures,
+)
 
 add-pack-row-2 : tie.Need-add-pack-row-2 Inv-loop μ-loop
-add-pack-row-2 c = omega (arith, inside (c .before .before .before .before .before), c .before .before .before .before .before .before .before .before .before .before .before .pre, c .before .before .before .before .before .before .before .bitmap-words .ensures)
+add-pack-row-2 c = omega (
+  arith,
+  inside (c .before .before .before .before .before),
+  c .before .before .before .before .before .before .before .before .before .before .before
+      .pre,
+  c .before .before .before .before .before .before .before .bitmap-words .ensures,
+)
 
 pack-row-requires-2 : tie.Need-pack-row-requires-2 Inv-loop μ-loop
-pack-row-requires-2 c κs = omega (arith, inside (c .before .before .before .before .before), c .before .before .before .before .before .before .before .before .before .before .before .pre, c .before .before .before .before .before .before .loop .inv .1 .len, c .before .before .before .pack-row .ensures .len, c .before .before .before .before .before .before .before .bitmap-words .ensures)
+pack-row-requires-2 c κs = omega (
+  arith,
+  inside (c .before .before .before .before .before),
+  c .before .before .before .before .before .before .before .before .before .before
+      .before .pre,
+  c .before .before .before .before .before .before .loop .inv .1 .len,
+  c .before .before .before .pack-row .ensures .len,
+  c .before .before .before .before
+      .before .before .before .bitmap-words .ensures,
+)
 
 add-y : tie.Need-add-y Inv-loop μ-loop
 add-y c = search needs

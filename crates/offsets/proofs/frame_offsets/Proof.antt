@@ -10,8 +10,8 @@ use Rattle.rules.specs.declared.Offset.{Offset}
 use Rattle.rules.specs.Frames.{writtenOver}
 use Rattle.rules.specs.Series.{opposite, frameOffset, offsetList}
 use Rattle.rules.proofs.SeriesLaws.{frame-turned}
-use Rattle.offsets.specs.Pairs.{pairOffset, withOffset}
-use Rattle.offsets.proofs.PairLaws.{turn-ready, next-ready, next-frame, written-length, put-ready, put-next}
+use Rattle.offsets.specs.PairOffsets.{pairOffset, withOffset}
+use Rattle.offsets.proofs.PairOffsetLaws.{turn-ready, next-ready, next-frame, written-length, put-ready, put-next}
 use Rattle.offsets.proofs.frame_offsets.Statement.{statement}
 use Rattle.offsets.proofs.frame_offsets.Tie as tie
 

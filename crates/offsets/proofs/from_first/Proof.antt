@@ -5,8 +5,8 @@ use native.Mathlib.Omega.{arith}
 use borrow.Author.Needs.{needs}
 use Rattle.rules.specs.Series.{frameOffset}
 use Rattle.rules.proofs.SeriesLaws.{frame-at}
-use Rattle.offsets.specs.Pairs.{pairOffset}
-use Rattle.offsets.proofs.PairLaws.{next-ready, next-frame}
+use Rattle.offsets.specs.PairOffsets.{pairOffset}
+use Rattle.offsets.proofs.PairOffsetLaws.{next-ready, next-frame}
 use Rattle.offsets.proofs.from_first.Statement.{statement}
 use Rattle.offsets.proofs.from_first.Tie as tie
 

@@ -1,7 +1,7 @@
 -- The seven words of differences add their bits.
 use Prim.Native.Nat.{ℕ, _+_, _≤_}
 use native.Mathlib.Omega.{arith}
-use Rattle.overlap.specs.Runs.{runDiffer}
+use Rattle.overlap.specs.WordRuns.{runDiffer}
 use Rattle.popcount.proofs.RowLaws.{seven-adds}
 use Rattle.overlap.proofs.run_block.Statement.{statement}
 use Rattle.overlap.proofs.run_block.Tie as tie

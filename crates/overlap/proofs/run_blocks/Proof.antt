@@ -3,8 +3,8 @@ use mathlib.Core.Path.{_≡_}
 use Prim.Native.Nat.{ℕ, _+_, _-_, _%_, _≤_}
 use native.Mathlib.Omega.{arith}
 use borrow.Author.Needs.{needs}
-use Rattle.popcount.specs.Rows.{Adds}
-use Rattle.overlap.specs.Runs.{runDiffer}
+use Rattle.popcount.specs.RowCounts.{Adds}
+use Rattle.overlap.specs.WordRuns.{runDiffer}
 use Rattle.popcount.proofs.RowLaws.{adds-none, adds-more, adds-next-le}
 use Rattle.overlap.proofs.OverlapLaws.{runDiffer-lt}
 use Rattle.overlap.proofs.run_blocks.Statement.{statement}

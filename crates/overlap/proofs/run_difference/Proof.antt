@@ -4,7 +4,7 @@ use Prim.Native.Nat.{ℕ, _+_, _*_, _-_, _%_}
 use native.Mathlib.Omega.{arith}
 use borrow.Author.Needs.{needs}
 use Rattle.rules.specs.Sums.{sum}
-use Rattle.overlap.specs.Runs.{runDiffer}
+use Rattle.overlap.specs.WordRuns.{runDiffer}
 use Rattle.popcount.proofs.RowLaws.{bits-le}
 use Rattle.overlap.proofs.OverlapLaws.{runDiffer-lt, run-whole}
 use Rattle.overlap.proofs.run_difference.Statement.{statement}

@@ -7,7 +7,7 @@ use Rattle.rules.specs.Refusals.{pairRefusal}
 use Rattle.rules.specs.Calls.{toleranceSetup, pairNumber, pairResult}
 use Rattle.rules.proofs.AlignmentLaws.{pair-ok}
 use Rattle.candidates.proofs.WardLaws.{ward-arrangement}
-use Rattle.pair.proofs.PairLaws.{refused-left, accepted-left}
+use Rattle.pair.proofs.PairCallLaws.{refused-left, accepted-left}
 use borrow.Author.Needs.{needs}
 use Rattle.pair.proofs.pair.Statement.{statement}
 use Rattle.pair.proofs.pair.Tie as tie
@@ -26,7 +26,8 @@ number-is : (c : tie.After-pair-refusal)
 number-is c =
     let a = c .before .before .before .before .before .before .before .args in
     c .pair-refusal .ensures
-    ∙ ap (λ (excluded : ℕ). pairRefusal (a .w) (a .h) (a .s) excluded (a .percentile) (length (a .first .now)) (length (a .second .now)) (length (a .counts .now)) (length (a .grey .now)) (length (a .words .now))) (c .before .tolerance-refusal .ensures)
+    ∙ ap (λ (excluded : ℕ). pairRefusal (a .w) (a .h) (a .s) excluded (a .percentile) (length (a .first .now)) (length (a .second .now)) (length (a .counts .now))
+    (length (a .grey .now)) (length (a .words .now))) (c .before .tolerance-refusal .ensures)
 
 returns : tie.Need-returns
 returns c =
@@ -39,7 +40,8 @@ align-rasters-requires : tie.Need-align-rasters-requires
 align-rasters-requires c κs =
     let d = c .before .before .before .before .before in
     let a = d .before .before .before .before .before .before .before .args in (
-      pair-ok (a .w) (a .h) (a .s) _ (a .percentile) (length (a .first .now)) (length (a .second .now)) (length (a .counts .now)) (length (a .grey .now)) (length (a .words .now)) (sym (d .pair-refusal .ensures) ∙ c .before .before .before .before .if1 .left),
+      pair-ok (a .w) (a .h) (a .s) _ (a .percentile) (length (a .first .now)) (length (a .second .now)) (length (a .counts .now)) (length (a .grey .now)) (length (a .words .now))
+          (sym (d .pair-refusal .ensures) ∙ c .before .before .before .before .if1 .left),
       ward-arrangement,
     )
 
@@ -58,7 +60,8 @@ returns-2 c =
     let a = d .before .before .before .before .before .before .before .args in
     let r = c .before .before .before .before .before .before .align-rasters in
     accepted-left _ (pairResult wardOrder (toleranceSetup (a .w) (a .h) (a .s) (a .tolerance) (a .percentile)) (a .first .now) (a .second .now))
-    (a .counts .now) _ (a .grey .now) _ (a .words .now) _ (r .result) (sym (number-is d) ∙ c .before .before .before .before .before .before .before .before .before .before .before .if1 .left) (r .ensures .0) (r .ensures .1)
+    (a .counts .now) _ (a .grey .now) _ (a .words .now) _ (r .result)
+    (sym (number-is d) ∙ c .before .before .before .before .before .before .before .before .before .before .before .if1 .left) (r .ensures .0) (r .ensures .1)
 
 pub pair-spec : {M : Type 1} → statement M
 pair-spec =

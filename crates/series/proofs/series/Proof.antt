@@ -8,7 +8,7 @@ use Rattle.rules.specs.Series.{seriesAnswer}
 use Rattle.rules.specs.Calls.{toleranceSettings, seriesNumber}
 use Rattle.rules.proofs.AlignmentLaws.{series-ok}
 use Rattle.candidates.proofs.WardLaws.{ward-arrangement}
-use Rattle.series.proofs.AnswerLaws.{refused-left, accepted-left}
+use Rattle.series.proofs.SeriesAnswerLaws.{refused-left, accepted-left}
 use borrow.Author.Needs.{needs}
 use Rattle.series.proofs.series.Statement.{statement}
 use Rattle.series.proofs.series.Tie as tie
@@ -22,11 +22,13 @@ series-refusal-requires c κs = search needs
 -- the number asked for is the call's
 number-is : (c : tie.After-series-refusal)
     → let a = c .before .before .before .before .before .before .before .args in
-    c .series-refusal .result ≡ seriesNumber (toleranceSettings (a .w) (a .h) (a .s) (a .tolerance) (a .n) (a .r) (a .percentiles .now)) (a .rasters .now) (a .offsets .now) (a .counts .now) (a .grey .now) (a .words .now)
+    c .series-refusal .result ≡ seriesNumber (toleranceSettings (a .w) (a .h) (a .s) (a .tolerance) (a .n) (a .r) (a .percentiles .now)) (a .rasters .now) (a .offsets .now)
+    (a .counts .now) (a .grey .now) (a .words .now)
 number-is c =
     let a = c .before .before .before .before .before .before .before .args in
     c .series-refusal .ensures
-    ∙ ap (λ (excluded : ℕ). seriesRefusal (a .w) (a .h) (a .s) excluded (a .n) (a .r) (a .percentiles .now) (length (a .rasters .now)) (length (a .offsets .now)) (length (a .counts .now)) (length (a .grey .now)) (length (a .words .now))) (c .before .tolerance-refusal .ensures)
+    ∙ ap (λ (excluded : ℕ). seriesRefusal (a .w) (a .h) (a .s) excluded (a .n) (a .r) (a .percentiles .now) (length (a .rasters .now)) (length (a .offsets .now))
+    (length (a .counts .now)) (length (a .grey .now)) (length (a .words .now))) (c .before .tolerance-refusal .ensures)
 
 returns : tie.Need-returns
 returns c =
@@ -37,8 +39,11 @@ returns c =
 align-series-requires : tie.Need-align-series-requires
 align-series-requires c κs =
     let d = c .before .before .before .before .before .before in
-    let a = d .before .before .before .before .before .before .before .args in
-    (series-ok (a .w) (a .h) (a .s) _ (a .n) (a .r) (a .percentiles .now) (length (a .rasters .now)) (length (a .offsets .now)) (length (a .counts .now)) (length (a .grey .now)) (length (a .words .now)) (sym (d .series-refusal .ensures) ∙ c .before .before .before .before .before .if1 .left), ward-arrangement)
+    let a = d .before .before .before .before .before .before .before .args in (
+      series-ok (a .w) (a .h) (a .s) _ (a .n) (a .r) (a .percentiles .now) (length (a .rasters .now)) (length (a .offsets .now)) (length (a .counts .now)) (length (a .grey .now))
+          (length (a .words .now)) (sym (d .series-refusal .ensures) ∙ c .before .before .before .before .before .if1 .left),
+      ward-arrangement,
+    )
 
 same-length : tie.Need-same-length
 same-length c = search needs
@@ -57,7 +62,8 @@ returns-2 c =
     let d = c .before .before .before .before .before .before .before .before .before .before .before .before .before .before in
     let a = d .before .before .before .before .before .before .before .args in
     let r = c .before .before .before .before .before .before .before .align-series in
-    accepted-left _ (seriesAnswer wardOrder (toleranceSettings (a .w) (a .h) (a .s) (a .tolerance) (a .n) (a .r) (a .percentiles .now)) (a .rasters .now)) (a .offsets .now) _ (a .counts .now) _ (a .grey .now) _ (a .words .now) _
+    accepted-left _ (seriesAnswer wardOrder (toleranceSettings (a .w) (a .h) (a .s) (a .tolerance) (a .n) (a .r) (a .percentiles .now)) (a .rasters .now)) (a .offsets .now) _
+    (a .counts .now) _ (a .grey .now) _ (a .words .now) _
     (sym (number-is d) ∙ c .before .before .before .before .before .before .before .before .before .before .before .before .before .if1 .left) (r .ensures .0) (r .ensures .1)
 
 pub series-spec : {M : Type 1} → statement M

@@ -69,11 +69,13 @@ align-frames-requires c κs =
     let o = s .pre .0 in
     let one = c .before .before .before .before .before .before .before .before .before .place in
     let two = c .before .before .before .before .before .before .before .before .place2 in
-    let f = frames-at (a .setup) (a .k) (length (a .rasters .now)) (length (a .pairs .now)) (length (a .counts .now)) (length (a .grey .now)) (length (a .words .now)) (one .result) (two .result) o (one .ensures) (two .ensures) in
+    let f = frames-at (a .setup) (a .k) (length (a .rasters .now)) (length (a .pairs .now)) (length (a .counts .now)) (length (a .grey .now)) (length (a .words .now))
+    (one .result) (two .result) o (one .ensures) (two .ensures) in
     (rw (c .before .before .before .before .before .convert .ensures .len) f, (o .bitmaps, (o .places, (s .pre .1 .1 .0, s .pre .1 .1 .1))))
 
 put-offset-requires : tie.Need-put-offset-requires
-put-offset-requires c κs = c .before .before .before .before .before .before .before .before .before .before .before .before .before .before .before .before .before .before .before .before .before .before .pre .0 .offset
+put-offset-requires c κs = c .before .before .before .before .before .before .before .before .before .before .before .before .before .before .before .before .before .before
+    .before .before .before .before .pre .0 .offset
 
 same-length : tie.Need-same-length
 same-length c = search needs
@@ -89,7 +91,8 @@ same-length-4 c = search needs
 
 returns : tie.Need-returns
 returns c =
-    let s = c .before .before .before .before .before .before .before .before .before .before .before .before .before .before .before .before .before .before .before .before .before .before .before .before in
+    let s = c .before .before .before .before .before .before .before .before .before .before .before .before .before .before .before .before .before .before .before .before
+    .before .before .before .before in
     let a = s .args in
     let one = c .before .before .before .before .before .before .before .before .before .before .before .before .before .before .before .before .before .before .before .place in
     let two = c .before .before .before .before .before .before .before .before .before .before .before .before .before .before .before .before .before .before .place2 in

@@ -7,7 +7,7 @@ use borrow.Author.Needs.{needs}
 use Rattle.rules.specs.Levels.{arranged}
 use Rattle.rules.proofs.AlignmentLaws.{level-pixels-at}
 use Rattle.popcount.proofs.TableLaws.{counts-bits}
-use Rattle.series_pairs.specs.Runs.{pairsOf, PairsOk, Run}
+use Rattle.series_pairs.specs.PairRuns.{pairsOf, PairsOk, Run}
 use Rattle.series_pairs.proofs.RunLaws.{made, whole-room, pair-sizes, pairs-length, room-at, room-kept, run-none, first-stands-at, run-more, run-all}
 use Rattle.series_pairs.proofs.align_pairs.Statement.{statement}
 use Rattle.series_pairs.proofs.align_pairs.Tie as tie
@@ -39,7 +39,9 @@ loop-holds c =
     let a = s .args in
     let new = c .before .before .convert in (
       let l = s .pre .0 .frames .0 in omega arith,
-      run-none (made (a .setup .w) (a .setup .h) (a .setup .s) (a .setup .percentile) (a .setup .exclusion)) (a .n) (a .rasters .now) (pairsOf (arranged (a .order .now)) (made (a .setup .w) (a .setup .h) (a .setup .s) (a .setup .percentile) (a .setup .exclusion)) (a .percentiles .now) (a .rasters .now)) (a .pairs .now) (a .counts .now) (new .last .1 .1 .0)
+      run-none (made (a .setup .w) (a .setup .h) (a .setup .s) (a .setup .percentile) (a .setup .exclusion)) (a .n) (a .rasters .now)
+          (pairsOf (arranged (a .order .now)) (made (a .setup .w) (a .setup .h) (a .setup .s) (a .setup .percentile) (a .setup .exclusion)) (a .percentiles .now) (a .rasters .now))
+          (a .pairs .now) (a .counts .now) (new .last .1 .1 .0)
           (first-stands-at (made (a .setup .w) (a .setup .h) (a .setup .s) (a .setup .percentile) (a .setup .exclusion)) (a .rasters .now) (a .grey .now) (new .last .1 .1 .0) (new .ensures)),
       refl,
       refl,
@@ -64,7 +66,8 @@ accepted c =
     let i = c .loop .inv in
     room-kept (a .setup) (a .n) (a .percentiles .now) (length (a .rasters .now)) (length (a .pairs .now)) (length (a .counts .now)) (length (a .grey .now)) (length (a .words .now))
     (length (c .loop .pairs)) (length (c .loop .counts)) (length (c .loop .grey)) (length (c .loop .words))
-    (pairs-length (a .n) (c .loop .k) (pairsOf (arranged (a .order .now)) (made (a .setup .w) (a .setup .h) (a .setup .s) (a .setup .percentile) (a .setup .exclusion)) (a .percentiles .now) (a .rasters .now)) (a .pairs .now) (c .loop .pairs) (i .0) (s .pre .0 .room1) (i .1 .offsets))
+    (pairs-length (a .n) (c .loop .k) (pairsOf (arranged (a .order .now)) (made (a .setup .w) (a .setup .h) (a .setup .s) (a .setup .percentile) (a .setup .exclusion))
+    (a .percentiles .now) (a .rasters .now)) (a .pairs .now) (c .loop .pairs) (i .0) (s .pre .0 .room1) (i .1 .offsets))
     (i .1 .written .len) (i .2 ∙ c .before .before .before .convert .ensures .len) (i .3) (s .pre .0)
 
 align-next-requires : tie.Need-align-next-requires Inv-loop μ-loop
@@ -92,9 +95,11 @@ loop-again c =
     let t : l .loop .k + 1 < a .n = omega (arith, c .before .before .before .before .before .before .before .before .before .before .before .before .before .before .loop-test .taken) in
     let next = c .before .before .before .before .before .before .before .align-next in (
       omega arith,
-      run-more (made (a .setup .w) (a .setup .h) (a .setup .s) (a .setup .percentile) (a .setup .exclusion)) (a .percentiles .now) (a .n) (l .loop .k) (a .rasters .now) (pairsOf (arranged (a .order .now)) (made (a .setup .w) (a .setup .h) (a .setup .s) (a .setup .percentile) (a .setup .exclusion)) (a .percentiles .now) (a .rasters .now))
+      run-more (made (a .setup .w) (a .setup .h) (a .setup .s) (a .setup .percentile) (a .setup .exclusion)) (a .percentiles .now) (a .n) (l .loop .k) (a .rasters .now)
+          (pairsOf (arranged (a .order .now)) (made (a .setup .w) (a .setup .h) (a .setup .s) (a .setup .percentile) (a .setup .exclusion)) (a .percentiles .now) (a .rasters .now))
           (a .pairs .now) (l .loop .pairs) (next .last .1 .1 .1 .0) (a .counts .now) (l .loop .counts) (next .last .1 .1 .1 .1 .0) (l .loop .grey) (next .last .1 .1 .1 .1 .1 .0)
-          (pair-sizes (arranged (a .order .now)) (made (a .setup .w) (a .setup .h) (a .setup .s) (a .setup .percentile) (a .setup .exclusion)) (a .percentiles .now) (a .rasters .now)) t (s .pre .0 .room1) (l .loop .inv .1) (next .ensures),
+          (pair-sizes (arranged (a .order .now)) (made (a .setup .w) (a .setup .h) (a .setup .s) (a .setup .percentile) (a .setup .exclusion)) (a .percentiles .now)
+          (a .rasters .now)) t (s .pre .0 .room1) (l .loop .inv .1) (next .ensures),
       next .kept .1 .1 .1 .1 .1 .0 ∙ l .loop .inv .2,
       next .kept .1 .1 .1 .1 .1 .1 .0 ∙ l .loop .inv .3,
     )
@@ -104,7 +109,8 @@ same-length c =
     let l = c .before in
     let s = l .before .before .before .before .before .before .before .before .before .before in
     let a = s .args in
-    pairs-length (a .n) (l .loop .k) (pairsOf (arranged (a .order .now)) (made (a .setup .w) (a .setup .h) (a .setup .s) (a .setup .percentile) (a .setup .exclusion)) (a .percentiles .now) (a .rasters .now)) (a .pairs .now) (l .loop .pairs) (l .loop .inv .0) (s .pre .0 .room1) (l .loop .inv .1 .offsets)
+    pairs-length (a .n) (l .loop .k) (pairsOf (arranged (a .order .now)) (made (a .setup .w) (a .setup .h) (a .setup .s) (a .setup .percentile) (a .setup .exclusion))
+    (a .percentiles .now) (a .rasters .now)) (a .pairs .now) (l .loop .pairs) (l .loop .inv .0) (s .pre .0 .room1) (l .loop .inv .1 .offsets)
 
 same-length-2 : tie.Need-same-length-2 Inv-loop μ-loop
 same-length-2 c = c .before .loop .inv .1 .written .len
@@ -120,9 +126,11 @@ returns c =
     let l = c .before in
     let s = l .before .before .before .before .before .before .before .before .before .before in
     let a = s .args in
-    run-all (made (a .setup .w) (a .setup .h) (a .setup .s) (a .setup .percentile) (a .setup .exclusion)) (a .n) (l .loop .k) (a .rasters .now) (pairsOf (arranged (a .order .now)) (made (a .setup .w) (a .setup .h) (a .setup .s) (a .setup .percentile) (a .setup .exclusion)) (a .percentiles .now) (a .rasters .now))
+    run-all (made (a .setup .w) (a .setup .h) (a .setup .s) (a .setup .percentile) (a .setup .exclusion)) (a .n) (l .loop .k) (a .rasters .now)
+    (pairsOf (arranged (a .order .now)) (made (a .setup .w) (a .setup .h) (a .setup .s) (a .setup .percentile) (a .setup .exclusion)) (a .percentiles .now) (a .rasters .now))
     (a .pairs .now) (l .loop .pairs) (a .counts .now) (l .loop .counts) (l .loop .grey)
-    (pair-sizes (arranged (a .order .now)) (made (a .setup .w) (a .setup .h) (a .setup .s) (a .setup .percentile) (a .setup .exclusion)) (a .percentiles .now) (a .rasters .now)) (omega arith) (s .pre .0 .room2) (l .loop .inv .1)
+    (pair-sizes (arranged (a .order .now)) (made (a .setup .w) (a .setup .h) (a .setup .s) (a .setup .percentile) (a .setup .exclusion)) (a .percentiles .now) (a .rasters .now))
+    (omega arith) (s .pre .0 .room2) (l .loop .inv .1)
 
 pub align-pairs-spec : {M : Type 1} → statement M
 align-pairs-spec =

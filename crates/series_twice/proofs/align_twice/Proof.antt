@@ -33,15 +33,20 @@ same-length-6 c = search needs
 
 returns : tie.Need-returns
 returns c =
-    let a = c .before .before .before .before .before .before .before .before .before .before .before .before .before .before .before .before .before .before .before .before .before .before .before .before .before .before .before .before .before .before .before .args in
+    let a = c .before .before .before .before .before .before .before .before .before .before .before .before .before .before .before .before .before .before .before .before
+    .before .before .before .before .before .before .before .before .before .before .before .args in
     let one = c .before .before .before .before .before .before .before .before .before .before .before .before .before .before .before .before .before .before .before .series in
     let two = c .before .before .before .before .before .before .before .series2 in
     demanded _ ward-arrangement (toleranceSettings (a .w) (a .h) (a .s) (a .tolerance) (a .n) (a .r) (a .percentiles .now)) (a .rasters1 .now) (a .rasters2 .now)
-    (a .offsets1 .now) (a .offsets2 .now) (one .last .1 .1 .1 .1 .1 .1 .1 .1 .0) (two .last .1 .1 .1 .1 .1 .1 .1 .1 .0) (a .counts1 .now) (a .counts2 .now) (one .last .1 .1 .1 .1 .1 .1 .1 .1 .1 .0) (two .last .1 .1 .1 .1 .1 .1 .1 .1 .1 .0)
-    (a .grey .now) (one .last .1 .1 .1 .1 .1 .1 .1 .1 .1 .1 .0) (one .last .1 .1 .1 .1 .1 .1 .1 .1 .1 .1 .0) (two .last .1 .1 .1 .1 .1 .1 .1 .1 .1 .1 .0) (a .words .now) (one .last .1 .1 .1 .1 .1 .1 .1 .1 .1 .1 .1 .0) (one .last .1 .1 .1 .1 .1 .1 .1 .1 .1 .1 .1 .0) (two .last .1 .1 .1 .1 .1 .1 .1 .1 .1 .1 .1 .0)
+    (a .offsets1 .now) (a .offsets2 .now) (one .last .1 .1 .1 .1 .1 .1 .1 .1 .0) (two .last .1 .1 .1 .1 .1 .1 .1 .1 .0) (a .counts1 .now) (a .counts2 .now)
+    (one .last .1 .1 .1 .1 .1 .1 .1 .1 .1 .0) (two .last .1 .1 .1 .1 .1 .1 .1 .1 .1 .0)
+    (a .grey .now) (one .last .1 .1 .1 .1 .1 .1 .1 .1 .1 .1 .0) (one .last .1 .1 .1 .1 .1 .1 .1 .1 .1 .1 .0) (two .last .1 .1 .1 .1 .1 .1 .1 .1 .1 .1 .0) (a .words .now)
+    (one .last .1 .1 .1 .1 .1 .1 .1 .1 .1 .1 .1 .0) (one .last .1 .1 .1 .1 .1 .1 .1 .1 .1 .1 .1 .0) (two .last .1 .1 .1 .1 .1 .1 .1 .1 .1 .1 .1 .0)
     (one .result) (two .result) (one .kept .1 .1 .1 .1 .1 .1 .1 .1 .1 .1 .0) (one .kept .1 .1 .1 .1 .1 .1 .1 .1 .1 .1 .1 .0)
-    (λ i. let l = c .before .before .before .before .before .before .before .before .before .before .before .before .before .before .before .before .before .before .before .before .before .before .before .before .before .before .before .before .before .shared-slice-known2 .given i in omega arith)
-    (λ i. let l = c .before .before .before .before .before .before .before .before .before .before .before .before .before .before .before .before .before .before .before .before .before .before .before .before .before .before .before .before .shared-slice-known3 .given i in omega arith)
+    (λ i. let l = c .before .before .before .before .before .before .before .before .before .before .before .before .before .before .before .before .before .before .before .before
+    .before .before .before .before .before .before .before .before .before .shared-slice-known2 .given i in omega arith)
+    (λ i. let l = c .before .before .before .before .before .before .before .before .before .before .before .before .before .before .before .before .before .before .before .before
+    .before .before .before .before .before .before .before .before .shared-slice-known3 .given i in omega arith)
     (one .ensures) (two .ensures)
 
 pub align-twice-spec : {M : Type 1} → statement M

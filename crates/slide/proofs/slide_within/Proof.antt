@@ -13,8 +13,8 @@ use Rattle.slide.proofs.slide_within.Statement.{statement}
 use Rattle.slide.proofs.slide_within.Tie as tie
 
 -- the bitmap and its place, by the words of a row
-placed : (n w h from to length : ℕ) → n ≡ rowWords w → from + rowWords w * h ≤ to → to + rowWords w * h ≤ length → (from + n * h ≤ to) × (to + n * h ≤ length)
-placed n w h from to length e a b = (rw e a, rw e b)
+placed : (n w h from to end : ℕ) → n ≡ rowWords w → from + rowWords w * h ≤ to → to + rowWords w * h ≤ end → (from + n * h ≤ to) × (to + n * h ≤ end)
+placed n w h from to end e a b = (rw e a, rw e b)
 
 sized : (c : tie.After-move-by) → let s = c .before .before .before in let n = c .move-by .result .n in
     (s .args .from + n * s .args .h ≤ s .args .to) × (s .args .to + n * s .args .h ≤ length (s .args .words .now))

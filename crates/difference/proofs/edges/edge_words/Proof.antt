@@ -3,8 +3,8 @@ use mathlib.Core.Path.{_≡_}
 use Prim.Native.Nat.{ℕ, _+_, _-_, _≤_}
 use native.Mathlib.Omega.{arith}
 use borrow.Author.Needs.{needs}
-use Rattle.popcount.specs.Rows.{Adds}
-use Rattle.difference.specs.Rows.{movedDiffer}
+use Rattle.popcount.specs.RowCounts.{Adds}
+use Rattle.difference.specs.RowDifferences.{movedDiffer}
 use Rattle.popcount.proofs.RowLaws.{adds-none, adds-more, adds-next-le, row-words-le}
 use Rattle.difference.proofs.DifferLaws.{movedDiffer-lt}
 use Rattle.difference.proofs.edges.edge_words.Statement.{statement}

@@ -2,7 +2,7 @@
 use Prim.Native.Nat.{ℕ}
 use native.Mathlib.Omega.{arith}
 use borrow.Author.Needs.{needs}
-use Rattle.difference.specs.Rows.{movedDiffer}
+use Rattle.difference.specs.RowDifferences.{movedDiffer}
 use Rattle.popcount.proofs.RowLaws.{adds-next-le, row-words-le}
 use Rattle.difference.proofs.DifferLaws.{movedDiffer-lt}
 use Rattle.difference.proofs.interior.interior.Statement.{statement}

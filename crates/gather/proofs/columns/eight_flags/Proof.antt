@@ -1,7 +1,7 @@
 -- The joined bytes are the flags from place `at` on.
 use Prim.Native.Nat.{_+_}
 use lib.ListN.{getD}
-use Rattle.gather.proofs.JoinLaws.{bytes-ext, eight-from}
+use Rattle.gather.proofs.GatherJoinLaws.{bytes-ext, eight-from}
 use borrow.Author.Needs.{needs}
 use Rattle.gather.proofs.columns.eight_flags.Statement.{statement}
 use Rattle.gather.proofs.columns.eight_flags.Tie as tie

@@ -2,7 +2,7 @@
 use Prim.Native.Nat.{_+_, _*_}
 use lib.ListN.{getD}
 use Rattle.gather.specs.Gathers.{Bytes}
-use Rattle.gather.proofs.JoinLaws.{eight}
+use Rattle.gather.proofs.GatherJoinLaws.{eight}
 use Rattle.gather.proofs.GatherLaws.{gathered}
 use borrow.Author.Needs.{needs}
 use Rattle.gather.proofs.columns.gather_columns.Statement.{statement}

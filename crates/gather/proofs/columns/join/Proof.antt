@@ -2,7 +2,7 @@
 use mathlib.Core.List.{[], _∷_}
 use Prim.Native.Nat.{_<_}
 use lib.ListN.{getD}
-use Rattle.gather.proofs.JoinLaws.{eight, joined}
+use Rattle.gather.proofs.GatherJoinLaws.{eight, joined}
 use native.Mathlib.Omega.{arith}
 use Rattle.gather.proofs.columns.join.Statement.{statement}
 use Rattle.gather.proofs.columns.join.Tie as tie

@@ -3,7 +3,7 @@ use mathlib.Core.Path.{_≡_, sym, _∙_}
 use mir.Facts.{toZ-ofZ}
 use borrow.Author.Needs.{needs}
 use Rattle.rules.specs.Calls.{differenceAnswer}
-use Rattle.mtb.proofs.ValueLaws.{counted-count, counted-refused, value-accepted, value-refused}
+use Rattle.mtb.proofs.ValueLaws.{counted-count, counted-refused, value-kept}
 use Rattle.mtb.proofs.bitmaps.mtb_difference.Statement.{statement}
 use Rattle.mtb.proofs.bitmaps.mtb_difference.Tie as tie
 
@@ -29,12 +29,12 @@ answered c =
 returns : tie.Need-returns
 returns c =
     let m = counted-count _ _ _ (sym (c .before .pixels .given .1) ∙ answered (c .before .before .before)) in
-    (m .0, value-accepted _ _ _ _ (m .0) (m .1))
+    (m .0, m .1)
 
 returns-2 : tie.Need-returns-2
 returns-2 c =
     let m = counted-refused _ _ _ (sym (c .before .n .given .1) ∙ answered (c .before .before .before)) in
-    (m .0, value-refused _ _ _ _ (m .0) (m .1))
+    (m .0, value-kept _ _ _ (m .1))
 
 pub mtb-difference-spec : {M : Type 1} → statement M
 mtb-difference-spec =

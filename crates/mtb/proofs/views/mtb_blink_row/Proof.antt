@@ -2,7 +2,7 @@
 use mathlib.Core.Path.{sym, ap, _∙_}
 use lib.ListN.{length}
 use borrow.Author.Needs.{needs}
-use Rattle.mtb.proofs.ValueLaws.{row-at, row-refused, value-accepted, value-refused}
+use Rattle.mtb.proofs.ValueLaws.{row-at, row-refused, value-kept}
 use Rattle.mtb.proofs.views.mtb_blink_row.Statement.{statement}
 use Rattle.mtb.proofs.views.mtb_blink_row.Tie as tie
 
@@ -21,12 +21,12 @@ enum-known-n c = search needs
 returns : tie.Need-returns
 returns c =
     let m = row-at _ _ _ (sym (c .before .before .from .given .1) ∙ c .before .before .before .before .blink-start .ensures) in
-    (m .0, (value-accepted _ _ _ _ (m .0) (m .1), value-accepted _ _ _ _ (m .0) (ap length (c .blink-row .ensures))))
+    (m .0, (m .1, (ap length (c .blink-row .ensures))))
 
 returns-2 : tie.Need-returns-2
 returns-2 c =
     let m = row-refused _ _ _ (sym (c .before .n .given .1) ∙ c .before .before .before .blink-start .ensures) in
-    (m .0, (value-refused _ _ _ _ (m .0) (m .1), value-refused _ _ _ _ (m .0) (m .1)))
+    (m .0, (value-kept _ _ _ (m .1), value-kept _ _ _ (m .1)))
 
 pub mtb-blink-row-spec : {M : Type 1} → statement M
 mtb-blink-row-spec =

@@ -5,7 +5,7 @@ use borrow.Author.Needs.{needs}
 use Rattle.area.specs.declared.Area.{Area}
 use Rattle.area.specs.Common.{areaRefusal, commonArea}
 use Rattle.mtb.proofs.FitLaws.{SmallArea, area-small}
-use Rattle.mtb.proofs.ValueLaws.{common-area, common-refused, value-accepted, value-refused}
+use Rattle.mtb.proofs.ValueLaws.{common-area, common-refused, value-kept}
 use Rattle.mtb.proofs.views.mtb_common_area.Statement.{statement}
 use Rattle.mtb.proofs.views.mtb_common_area.Tie as tie
 
@@ -41,13 +41,21 @@ enum-known-k c = search needs
 
 returns : tie.Need-returns
 returns c =
-    let m = accepted (c .before .before .before .before .before) in
-    (m .0, (value-accepted _ _ _ _ (m .0) (ap (λ (z : Area). z .left) (m .1)), (value-accepted _ _ _ _ (m .0) (ap (λ (z : Area). z .right) (m .1)), (value-accepted _ _ _ _ (m .0) (ap (λ (z : Area). z .top) (m .1)), value-accepted _ _ _ _ (m .0) (ap (λ (z : Area). z .bottom) (m .1))))))
+    let m = accepted (c .before .before .before .before .before) in (
+      m .0,
+      (
+        (ap (λ (z : Area). z .left) (m .1)),
+        (
+          (ap (λ (z : Area). z .right) (m .1)),
+          ((ap (λ (z : Area). z .top) (m .1)), (ap (λ (z : Area). z .bottom) (m .1))),
+        ),
+      ),
+    )
 
 returns-2 : tie.Need-returns-2
 returns-2 c =
     let m = common-refused _ _ _ (sym (c .before .k .given .1) ∙ c .before .before .before .common-area .ensures) in
-    (m .0, (value-refused _ _ _ _ (m .0) (m .1), (value-refused _ _ _ _ (m .0) (m .1), (value-refused _ _ _ _ (m .0) (m .1), value-refused _ _ _ _ (m .0) (m .1)))))
+    (m .0, (value-kept _ _ _ (m .1), (value-kept _ _ _ (m .1), (value-kept _ _ _ (m .1), value-kept _ _ _ (m .1)))))
 
 pub mtb-common-area-spec : {M : Type 1} → statement M
 mtb-common-area-spec =

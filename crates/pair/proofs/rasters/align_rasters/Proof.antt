@@ -8,7 +8,7 @@ use Rattle.rules.specs.Levels.{arranged}
 use Rattle.rules.proofs.AlignmentLaws.{level-pixels-at}
 use Rattle.popcount.proofs.TableLaws.{counts-bits}
 use Rattle.align.proofs.WrittenLaws.{converted, converted-kept}
-use Rattle.pair.proofs.PairLaws.{pair-offset, pair-counts, pair-frames}
+use Rattle.pair.proofs.PairCallLaws.{pair-offset, pair-counts, pair-frames}
 use borrow.Author.Needs.{needs}
 use Rattle.pair.proofs.rasters.align_rasters.Statement.{statement}
 use Rattle.pair.proofs.rasters.align_rasters.Tie as tie
@@ -36,8 +36,10 @@ align-frames-requires c κs =
     let s = c .before .before .before .before .before .before .before .before .before .before .before .before .before .before .before .before .before in
     let a = s .args in
     let k = s .pre .0 in
-    let l = c .before .before .before .before .before .before .convert2 .ensures .len ∙ c .before .before .before .before .before .before .before .before .before .before .convert .ensures .len in
-    (rw l (pair-frames (a .setup) (length (a .first .now)) (length (a .second .now)) (length (a .counts .now)) (length (a .grey .now)) (length (a .words .now)) k), (k .bitmaps, (let l = k .room in omega arith, (s .pre .1, counts-bits))))
+    let l = c .before .before .before .before .before .before .convert2 .ensures .len ∙ c .before .before .before .before .before .before .before .before .before .before .convert .ensures .len in (
+      rw l (pair-frames (a .setup) (length (a .first .now)) (length (a .second .now)) (length (a .counts .now)) (length (a .grey .now)) (length (a .words .now)) k),
+      (k .bitmaps, (let l = k .room in omega arith, (s .pre .1, counts-bits))),
+    )
 
 same-length : tie.Need-same-length
 same-length c = search needs
@@ -50,7 +52,8 @@ same-length-3 c = search needs
 
 returns : tie.Need-returns
 returns c =
-    let s = c .before .before .before .before .before .before .before .before .before .before .before .before .before .before .before .before .before .before .before .before .before .before .before .before in
+    let s = c .before .before .before .before .before .before .before .before .before .before .before .before .before .before .before .before .before .before .before .before
+    .before .before .before .before in
     let a = s .args in
     let one = c .before .before .before .before .before .before .before .before .before .before .before .before .before .before .before .before .before .convert in
     let two = c .before .before .before .before .before .before .before .before .before .before .before .before .before .convert2 in

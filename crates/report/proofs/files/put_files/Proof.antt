@@ -58,7 +58,8 @@ returns-2 : tie.Need-returns-2
 returns-2 c =
     let b = c .before .before .before .before .before .before in
     let a = start (b .before .before .before) .args in
-    rw (second-refused (a .s) (a .tolerance) (a .percentile) (a .first .now) (a .second .now) _ (sizeRead b) _ (sym (b .before .before .p6-size2 .ensures) ∙ c .before .before .before .held2 .given .1))
+    rw (second-refused (a .s) (a .tolerance) (a .percentile) (a .first .now) (a .second .now) _ (sizeRead b) _
+    (sym (b .before .before .p6-size2 .ensures) ∙ c .before .before .before .held2 .given .1))
     (c .put-refused2 .ensures)
 
 returns-3 : tie.Need-returns-3

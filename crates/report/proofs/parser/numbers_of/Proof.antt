@@ -26,7 +26,8 @@ start3 c = start2 (c .before .before .before .before .before)
 first : (c : tie.After-known-told) → spacedNumber (start1 c .args .line .now) 0 ≡ Number.Read (c .before .s .given .0 .0) (c .before .s .given .0 .1 .0)
 first c = sym (c .before .before .before .spaced-number .ensures) ∙ c .before .s .given .1
 
-second : (c : tie.After-known-told2) → spacedNumber (start2 c .args .line .now) (c .before .before .before .before .before .s .given .0 .1 .0) ≡ Number.Read (c .before .tolerance .given .0 .0) (c .before .tolerance .given .0 .1 .0)
+second : (c : tie.After-known-told2) → spacedNumber (start2 c .args .line .now) (c .before .before .before .before .before .s .given .0 .1 .0) ≡ Number.Read
+    (c .before .tolerance .given .0 .0) (c .before .tolerance .given .0 .1 .0)
 second c = sym (c .before .before .before .spaced-number2 .ensures) ∙ c .before .tolerance .given .1
 
 -- the third one begins within the line
@@ -39,7 +40,8 @@ within c = spaced-in (start2 c .args .line .now) _ _ _ (second c)
 answered : (c : tie.After-read-number) → numberOf (drop (at (c .before .before)) (start2 (c .before .before) .args .line .now)) ≡ c .read-number .result
 answered c = sym (c .read-number .ensures ∙ ap numberOf (part-to-end (start2 (c .before .before) .args .line .now) (at (c .before .before))))
 
-third : (c : tie.After-known-told3) → numberOf (drop (at (c .before .before .before .before .before)) (start3 c .args .line .now)) ≡ Number.Read (c .before .percentile .given .0 .0) (c .before .percentile .given .0 .1 .0)
+third : (c : tie.After-known-told3) → numberOf (drop (at (c .before .before .before .before .before)) (start3 c .args .line .now)) ≡ Number.Read
+    (c .before .percentile .given .0 .0) (c .before .percentile .given .0 .1 .0)
 third c = answered (c .before .before .before) ∙ c .before .percentile .given .1
 
 spaced-number-requires : tie.Need-spaced-number-requires

@@ -13,7 +13,9 @@ use Rattle.report.proofs.writer.put_refused.Tie as tie
 begun : (c : tie.After-put) → Wrote 0 (114 ∷ 101 ∷ 102 ∷ 117 ∷ 115 ∷ 101 ∷ 100 ∷ 32 ∷ []) (c .before .before .before .before .args .out .now) (c .put .result) (c .put .last .0)
 begun c = wrote-one 0 _ _ _ _ (c .put .ensures)
 
-numbered : (c : tie.After-put-number) → Wrote 0 ((114 ∷ 101 ∷ 102 ∷ 117 ∷ 115 ∷ 101 ∷ 100 ∷ 32 ∷ []) ++ digits (c .before .before .before .before .before .before .before .before .args .n)) (c .before .before .before .before .before .before .before .before .args .out .now) (c .put-number .result) (c .put-number .last .0)
+numbered : (c : tie.After-put-number) → Wrote 0 ((114 ∷ 101 ∷ 102 ∷ 117 ∷ 115 ∷ 101 ∷ 100 ∷ 32 ∷ []) ++ digits
+    (c .before .before .before .before .before .before .before .before .args .n)) (c .before .before .before .before .before .before .before .before .args .out .now)
+    (c .put-number .result) (c .put-number .last .0)
 numbered c = wrote-then 0 _ _ _ _ _ _ _ (begun (c .before .before .before .before)) (c .put-number .ensures)
 
 slice-aggregate-put : tie.Need-slice-aggregate-put

@@ -1,0 +1,21 @@
+use borrow.Author.Needs.{needs}
+use Rattle.mtb.proofs.ValueLaws.{written-number}
+use Rattle.mtb.proofs.greys.mtb_halve.Statement.{statement}
+use Rattle.mtb.proofs.greys.mtb_halve.Tie as tie
+
+halve-requires : tie.Need-halve-requires
+halve-requires c κs = search needs
+
+refusal-in-requires : tie.Need-refusal-in-requires
+refusal-in-requires c κs = search needs
+
+same-length : tie.Need-same-length
+same-length c = search needs
+
+returns : tie.Need-returns
+returns c =
+    let call = c .before .before .before .halve in
+    (written-number _ _ _ (c .refusal-in .ensures) (call .ensures .0), call .ensures .1)
+
+pub mtb-halve-spec : {M : Type 1} → statement M
+mtb-halve-spec = tie.close (tie.spec halve-requires refusal-in-requires same-length returns)

@@ -1,0 +1,43 @@
+// Frames: grey conversion, halving, threshold.
+
+ghost use mathlib.Core.Path.{_≡_};
+ghost use lib.ListN.{length};
+ghost use Rattle.rules.specs.Refusals.{greyRefusal, halveRefusal, thresholdRefusal};
+ghost use Rattle.rules.specs.Frames.{frameOf};
+ghost use Rattle.rules.specs.Thresholds.{threshold};
+ghost use Rattle.rules.specs.Calls.{greyOut, halveOut};
+ghost use Rattle.mtb.specs.Values.{valueAfter};
+use crate::numbers::refusal_in;
+use grey::to_grey;
+use halve::halve;
+use rules::Thresholded;
+
+#[no_mangle]
+pub extern "C" fn mtb_grey(w: u32, h: u32, raster: &[u8], grey: &mut [u8]) -> u32
+    ensures answer { λ n. ⌜ n ≡ greyRefusal w h (length (now (raster .entry))) (length (now (grey .entry))) ⌝ }
+    ensures output { λ _. ⌜ now (grey .exit) ≡ greyOut w h (now (raster .entry)) (now (grey .entry)) ⌝ }
+{
+    refusal_in(to_grey(w as usize, h as usize, raster, grey))
+}
+
+#[no_mangle]
+pub extern "C" fn mtb_halve(w: u32, h: u32, grey: &[u8], out: &mut [u8]) -> u32
+    ensures answer { λ n. ⌜ n ≡ halveRefusal w h (length (now (grey .entry))) (length (now (out .entry))) ⌝ }
+    ensures output { λ _. ⌜ now (out .exit) ≡ halveOut w h (now (grey .entry)) (now (out .entry)) ⌝ }
+{
+    refusal_in(halve(w as usize, h as usize, grey, out))
+}
+
+#[no_mangle]
+pub extern "C" fn mtb_threshold(w: u32, h: u32, percentile: u32, grey: &[u8], value: &mut u8) -> u32
+    ensures answer { λ n. ⌜ n ≡ thresholdRefusal w h percentile (length (now (grey .entry))) ⌝ }
+    ensures value { λ k. ⌜ now (value .exit) ≡ valueAfter k (threshold w h percentile (frameOf w (now (grey .entry)))) (now (value .entry)) ⌝ }
+{
+    match threshold::threshold(w as usize, h as usize, percentile, grey) {
+        Thresholded::At(t) => {
+            *value = t;
+            0
+        }
+        Thresholded::Refused(n) => n,
+    }
+}

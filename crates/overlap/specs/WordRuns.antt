@@ -1,0 +1,28 @@
+-- Counts over runs of whole words, with no edge at the ends of rows.
+use mathlib.Core.Path.{_≡_}
+use mathlib.Core.List.{List}
+use Prim.Native.Nat.{ℕ, _+_, _*_, _/_, _%_, _≤_, _<_}
+use lib.ListN.{length, getD}
+use Rattle.rules.specs.Limits.{maxSide, wordBits}
+use Rattle.rules.specs.Bitmaps.{bit, rowWords}
+use Rattle.difference.specs.RowDifferences.{disagree}
+
+-- bit p of the words from place `from` on
+unfoldable pub runBit : List ℕ → ℕ → ℕ → ℕ
+runBit words from p = bit (getD words (from + p / wordBits) 0) (p % wordBits)
+
+-- bit p of the first frame's words from place i on against that of the second's from place x on
+unfoldable pub runDiffer : List ℕ → List ℕ → List ℕ → List ℕ → ℕ → ℕ → ℕ → ℕ
+runDiffer t1 e1 t2 e2 i x p = disagree (runBit t1 i p) (runBit e1 i p) (runBit t2 x p) (runBit e2 x p)
+
+-- the two runs lie in the four bitmaps, and are no longer than a frame
+pub record RunsIn (t1 e1 t2 e2 : List ℕ) (i x len : ℕ) : Type 0 where
+  pub threshold1 : i + len ≤ length t1
+  pub exclusion1 : i + len ≤ length e1
+  pub threshold2 : x + len ≤ length t2
+  pub exclusion2 : x + len ≤ length e2
+  pub short : len ≤ wordBits * maxSide
+
+-- no row of w pixels has a 1 bit past w
+pub record Clean (w h : ℕ) (words : List ℕ) : Type 0 where
+  pub past : (x y : ℕ) → w ≤ x → x < rowWords w * wordBits → y < h → bit (getD words (y * rowWords w + x / wordBits) 0) (x % wordBits) ≡ 0
