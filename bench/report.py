@@ -20,11 +20,11 @@ WINDOW = 65 * 65  # moves of the window of single difference calls
 
 # A function of a profile belongs to the first step whose pattern its name has.
 STEPS = (
-    ("grey", r"to_grey|convert|mtb_pair|align::pair$"),
+    ("grey", r"to_grey|convert|mtb_pair|align_rasters|pair::pair$"),
     ("halving", r"halv"),
-    ("histogram and threshold", r"threshold_of|histogram|percentile_of|count_fours|bitmaps_within"),
+    ("histogram and threshold", r"threshold_of|histogram|count_fours|bitmaps_within"),
     ("bitmaps", r"pack"),
-    ("difference counts", r"count|ones|settle|column|difference|overlap|slid|moved_word"),
+    ("difference counts", r"count|align_level|column|difference|overlap|slid|moved_word|clipped_word"),
     ("other", r""),
 )
 
