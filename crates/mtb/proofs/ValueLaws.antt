@@ -1,5 +1,5 @@
 -- What C is told of a call. An answer made from a refusal number k and a value tells them back: accepted only where k is 0, else refused with k.
-use mathlib.Core.Path.{_≡_, refl, ap, subst, _∙_}
+use mathlib.Core.Path.{_≡_, refl, sym, ap, subst, _∙_}
 use mathlib.Core.List.{List}
 use Prim.Native.Nat.{ℕ, zero, suc}
 use native.Mathlib.Omega.{arith}
@@ -13,6 +13,7 @@ use Rattle.rules.specs.Answers.{written, counted, thresholded, paired}
 use Rattle.rules.specs.Levels.{Aligned}
 use Rattle.rules.specs.Series.{Answer}
 use Rattle.rules.specs.Calls.{PairLeft, SeriesLeft}
+use Rattle.rules.proofs.AlignmentLaws.{paired-refused as refused-is}
 use Rattle.ppm_read.specs.declared.Size.{Size}
 use Rattle.ppm_read.specs.declared.SizeRead.{SizeRead}
 use Rattle.ppm_write.specs.declared.FileWritten.{FileWritten}
@@ -102,13 +103,19 @@ pub row-refused : (k v n : ℕ) → Row.Refused n ≡ rowAt k v → (n ≡ k) ×
 row-refused zero v n e = let z : _≡_ {A = ℕ} 0 1 = cc in absurd (omega arith)
 row-refused (suc k) v n e = let d : n ≡ suc k = cc in (d, λ z. omega arith)
 
--- What a call leaves, for an answer that is the same.
-pub pair-left : (number : ℕ) (result : Aligned) (counts counts′ grey grey′ words words′ : List ℕ) (r r′ : Paired) → r ≡ r′
-    → PairLeft number result counts counts′ grey grey′ words words′ r → PairLeft number result counts counts′ grey grey′ words words′ r′
-pair-left number result counts counts′ grey grey′ words words′ r r′ e = subst (PairLeft number result counts counts′ grey grey′ words words′) e
+-- What a call leaves, by the number that C gets in the place of its answer.
+module _ (number : ℕ) (result : Aligned) (counts counts′ grey grey′ words words′ : List ℕ) (r : Paired) (left : PairLeft number result counts counts′ grey grey′ words words′ r) where
+  pub pair-accepted : (m : Offset) → r ≡ Paired.Moved m → PairLeft number result counts counts′ grey grey′ words words′ (paired 0 m)
+  pair-accepted m e = subst (PairLeft number result counts counts′ grey grey′ words words′) e left
 
-pub series-left : (number : ℕ) (result : Answer) (offsets offsets′ : List ℤ) (counts counts′ grey grey′ words words′ : List ℕ) (r r′ : Written) → r ≡ r′
-    → SeriesLeft number result offsets offsets′ counts counts′ grey grey′ words words′ r
-    → SeriesLeft number result offsets offsets′ counts counts′ grey grey′ words words′ r′
-series-left number result offsets offsets′ counts counts′ grey grey′ words words′ r r′ e =
-    subst (SeriesLeft number result offsets offsets′ counts counts′ grey grey′ words words′) e
+  pub pair-refused : (n : ℕ) (m : Offset) → r ≡ Paired.Refused n → PairLeft number result counts counts′ grey grey′ words words′ (paired n m) × (n ≡ 0 → ⊥)
+  pair-refused n m e =
+      let l = paired-refused number (result .offset) n (sym e ∙ left .answered) .1 in
+      (subst (PairLeft number result counts counts′ grey grey′ words words′) (e ∙ refused-is n m l) left, l)
+
+pub series-left : (number : ℕ) (result : Answer) (offsets offsets′ : List ℤ) (counts counts′ grey grey′ words words′ : List ℕ) (r : Written) (n : ℕ)
+    → SeriesLeft number result offsets offsets′ counts counts′ grey grey′ words words′ r → n ≡ refusalIn r
+    → SeriesLeft number result offsets offsets′ counts counts′ grey grey′ words words′ (written n)
+series-left number result offsets offsets′ counts counts′ grey grey′ words words′ r n left e =
+    subst (SeriesLeft number result offsets offsets′ counts counts′ grey grey′ words words′)
+    (left .answered ∙ ap written (sym (written-number number n r e (left .answered)))) left

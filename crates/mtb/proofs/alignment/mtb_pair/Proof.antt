@@ -4,9 +4,8 @@ use lib.IntN.{ℤ}
 use mir.Facts.{toZ-ofZ}
 use borrow.Author.Needs.{needs}
 use Rattle.rules.specs.declared.Paired.{Paired}
-use Rattle.rules.proofs.AlignmentLaws.{paired-refused as refused-is}
 use Rattle.mtb.specs.Values.{offset}
-use Rattle.mtb.proofs.ValueLaws.{paired-refused, pair-left}
+use Rattle.mtb.proofs.ValueLaws.{pair-accepted, pair-refused}
 use Rattle.mtb.proofs.alignment.mtb_pair.Statement.{statement}
 use Rattle.mtb.proofs.alignment.mtb_pair.Tie as tie
 
@@ -33,7 +32,7 @@ returns c =
     let call = c .before .before .before .before .before .before .before .before .before .before .before .pair in
     let x = toZ-ofZ (record { sfits = c .before .struct-told .given .0 .1 }) in
     let y = toZ-ofZ (record { sfits = c .struct-told2 .given .1 .0 .1 }) in (
-      pair-left _ _ _ _ _ _ _ _ _ _ (c .before .before .before .offset .given .1 ∙ ap₂ (λ (a b : ℤ). Paired.Moved (offset a b)) (sym x) (sym y)) (call .ensures),
+      pair-accepted _ _ _ _ _ _ _ _ _ (call .ensures) _ (c .before .before .before .offset .given .1 ∙ ap₂ (λ (a b : ℤ). Paired.Moved (offset a b)) (sym x) (sym y)),
       λ f. absurd (f refl),
     )
 
@@ -49,9 +48,7 @@ same-length-6 c = search needs
 returns-2 : tie.Need-returns-2
 returns-2 c =
     let call = c .before .before .before .before .before .before .before .before .before .pair in
-    let given = c .before .n .given .1 in
-    let m = paired-refused _ _ _ (sym given ∙ call .ensures .answered) in
-    (pair-left _ _ _ _ _ _ _ _ _ _ (given ∙ refused-is _ _ (m .1)) (call .ensures), λ f. (refl, refl))
+    (pair-refused _ _ _ _ _ _ _ _ _ (call .ensures) _ _ (c .before .n .given .1) .0, λ f. (refl, refl))
 
 pub mtb-pair-spec : {M : Type 1} → statement M
 mtb-pair-spec =

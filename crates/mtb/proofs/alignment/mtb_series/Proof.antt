@@ -1,8 +1,6 @@
 -- The offered call's own contract; its answer is told as a number.
-use mathlib.Core.Path.{sym, ap, _∙_}
-use Rattle.rules.specs.Answers.{written}
 use borrow.Author.Needs.{needs}
-use Rattle.mtb.proofs.ValueLaws.{written-number, series-left}
+use Rattle.mtb.proofs.ValueLaws.{series-left}
 use Rattle.mtb.proofs.alignment.mtb_series.Statement.{statement}
 use Rattle.mtb.proofs.alignment.mtb_series.Tie as tie
 
@@ -27,8 +25,7 @@ same-length-4 c = search needs
 returns : tie.Need-returns
 returns c =
     let call = c .before .before .before .before .before .before .before .before .series in
-    let e = call .ensures .answered in
-    series-left _ _ _ _ _ _ _ _ _ _ _ _ (e ∙ ap written (sym (written-number _ _ _ (c .refusal-in .ensures) e))) (call .ensures)
+    series-left _ _ _ _ _ _ _ _ _ _ _ _ (call .ensures) (c .refusal-in .ensures)
 
 pub mtb-series-spec : {M : Type 1} → statement M
 mtb-series-spec =
