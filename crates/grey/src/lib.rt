@@ -3,13 +3,11 @@
 pub mod conversion;
 
 use rules::Written;
-ghost use mathlib.Core.Path.{_≡_};
-ghost use Rattle.rules.specs.Calls.{greyAnswer, greyOut};
+ghost use Rattle.rules.specs.Calls.{GreyCall};
 
 // Grey conversion of a raster into a lent grey frame.
 pub fn to_grey(w: usize, h: usize, raster: &[u8], grey: &mut [u8]) -> Written
-    ensures answer { λ r. ⌜ r ≡ greyAnswer w h (now (raster .entry)) (now (grey .entry)) ⌝ }
-    ensures output { λ _. ⌜ now (grey .exit) ≡ greyOut w h (now (raster .entry)) (now (grey .entry)) ⌝ }
+    ensures { λ r. ⌜ GreyCall w h (now (raster .entry)) (now (grey .entry)) (now (grey .exit)) r ⌝ }
 {
     let n = refusals::grey_refusal(w, h, raster.len(), grey.len());
     if n != 0 {

@@ -7,7 +7,7 @@ use Rattle.rules.specs.declared.Written.{Written}
 use Rattle.rules.specs.Frames.{Frame, rows}
 use Rattle.rules.specs.Planes.{shifted}
 use Rattle.rules.specs.Refusals.{_when_, _orElse_, badSize, wrongLength, short, rasterLength}
-use Rattle.rules.specs.Answers.{written, bufferAfter}
+use Rattle.rules.specs.Calls.{Fills}
 
 -- red, green or blue (c = 0, 1, 2) of a raster's pixels: "rows from the top, three bytes a pixel: R, G, B"
 unfoldable pub channel : ℕ → List ℕ → ℕ → Frame
@@ -23,8 +23,7 @@ movedRefusal w h raster out =
     orElse 9 when wrongLength (rasterLength w h) raster
     orElse 10 when short (rasterLength w h) out
 
-abbrev pub movedAnswer : ℕ → ℕ → List ℕ → List ℕ → Written
-movedAnswer w h raster out = written (movedRefusal w h (length raster) (length out))
-
-abbrev pub movedOut : ℕ → ℕ → ℤ → ℤ → List ℕ → List ℕ → List ℕ
-movedOut w h dx dy raster out = bufferAfter (movedRefusal w h (length raster) (length out)) (rows (3 * w) h (movedByte w h dx dy raster)) out
+-- what the call leaves
+abbrev pub MovedCall : ℕ → ℕ → ℤ → ℤ → List ℕ → List ℕ → List ℕ → Written → Type 0
+MovedCall w h dx dy raster out out′ r =
+    Fills (movedRefusal w h (length raster) (length out)) (rows (3 * w) h (movedByte w h dx dy raster)) out out′ r

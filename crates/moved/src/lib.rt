@@ -1,7 +1,7 @@
 // The moved frame: the offered call.
 
 ghost use mathlib.Core.Path.{_≡_};
-ghost use Rattle.moved.specs.Moved.{movedRefusal, movedAnswer, movedOut};
+ghost use Rattle.moved.specs.Moved.{movedRefusal, MovedCall};
 use clipping::clip;
 use placing::place_rows;
 use refusals::Faults;
@@ -29,8 +29,7 @@ fn moved_refusal(w: usize, h: usize, raster: usize, out: usize) -> u32
 
 // The frame moved right by dx and down by dy, with 0,0,0 where nothing comes from inside.
 pub fn moved(w: usize, h: usize, dx: i32, dy: i32, raster: &[u8], out: &mut [u8]) -> Written
-    ensures answer { λ r. ⌜ r ≡ movedAnswer w h (now (raster .entry)) (now (out .entry)) ⌝ }
-    ensures output { λ _. ⌜ now (out .exit) ≡ movedOut w h dx dy (now (raster .entry)) (now (out .entry)) ⌝ }
+    ensures { λ r. ⌜ MovedCall w h dx dy (now (raster .entry)) (now (out .entry)) (now (out .exit)) r ⌝ }
 {
     let n = moved_refusal(w, h, raster.len(), out.len());
     if n != 0 {

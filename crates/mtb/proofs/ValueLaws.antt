@@ -4,6 +4,7 @@ use mathlib.Core.List.{List}
 use Prim.Native.Nat.{ℕ, zero, suc}
 use native.Mathlib.Omega.{arith}
 use lib.IntN.{ℤ}
+use lib.ListN.{length}
 use Rattle.rules.specs.declared.Written.{Written}
 use Rattle.rules.specs.declared.Counted.{Counted}
 use Rattle.rules.specs.declared.Thresholded.{Thresholded}
@@ -12,13 +13,13 @@ use Rattle.rules.specs.declared.Paired.{Paired}
 use Rattle.rules.specs.Answers.{written, counted, thresholded, paired}
 use Rattle.rules.specs.Levels.{Aligned}
 use Rattle.rules.specs.Series.{Answer}
-use Rattle.rules.specs.Calls.{PairLeft, SeriesLeft}
+use Rattle.rules.specs.Calls.{Fills, BitmapsLeft, PairLeft, SeriesLeft}
 use Rattle.rules.proofs.AlignmentLaws.{paired-refused as refused-is}
 use Rattle.ppm_read.specs.declared.Size.{Size}
 use Rattle.ppm_read.specs.declared.SizeRead.{SizeRead}
 use Rattle.ppm_write.specs.declared.FileWritten.{FileWritten}
 use Rattle.ppm_read.specs.P6.{sizeRead}
-use Rattle.ppm_write.specs.P6Writes.{fileWritten}
+use Rattle.ppm_write.specs.P6Writes.{fileWritten, FileLeft}
 use Rattle.area.specs.declared.Area.{Area}
 use Rattle.area.specs.declared.Common.{Common}
 use Rattle.area.specs.Common.{common}
@@ -44,8 +45,12 @@ in-written : (k : ℕ) → refusalIn (written k) ≡ k
 in-written zero = refl
 in-written (suc k) = refl
 
-pub written-number : (k n : ℕ) (answer : Written) → n ≡ refusalIn answer → answer ≡ written k → n ≡ k
+written-number : (k n : ℕ) (answer : Written) → n ≡ refusalIn answer → answer ≡ written k → n ≡ k
 written-number k n answer e made = e ∙ ap refusalIn made ∙ in-written k
+
+-- the number that C gets makes the answer again
+answer-is : (k n : ℕ) (answer : Written) → n ≡ refusalIn answer → answer ≡ written k → written n ≡ written k
+answer-is k n answer e made = ap written (written-number k n answer e made)
 
 pub counted-count : (k v x : ℕ) → Counted.Count x ≡ counted k v → (0 ≡ k) × (x ≡ v)
 counted-count zero v x e = (refl, cc)
@@ -79,13 +84,17 @@ pub read-refused : (k : ℕ) (v : Size) (n : ℕ) → SizeRead.Refused n ≡ siz
 read-refused zero v n e = let z : _≡_ {A = ℕ} 0 1 = cc in absurd (omega arith)
 read-refused (suc k) v n e = let d : n ≡ suc k = cc in (d, λ z. omega arith)
 
-pub written-bytes : (k v x : ℕ) → FileWritten.Bytes x ≡ fileWritten k v → (0 ≡ k) × (x ≡ v)
-written-bytes zero v x e = (refl, cc)
-written-bytes (suc k) v x e = let z : _≡_ {A = ℕ} 0 1 = cc in absurd (omega arith)
-
-pub file-refused : (k v n : ℕ) → FileWritten.Refused n ≡ fileWritten k v → (n ≡ k) × (n ≡ 0 → ⊥)
+file-refused : (k v n : ℕ) → FileWritten.Refused n ≡ fileWritten k v → (n ≡ k) × (n ≡ 0 → ⊥)
 file-refused zero v n e = let z : _≡_ {A = ℕ} 0 1 = cc in absurd (omega arith)
 file-refused (suc k) v n e = let d : n ≡ suc k = cc in (d, λ z. omega arith)
+
+file-made : (n v : ℕ) → (n ≡ 0 → ⊥) → fileWritten n v ≡ FileWritten.Refused n
+file-made zero v l = absurd (l refl)
+file-made (suc n) v l = refl
+
+-- a refused writer's answer, made again from its number
+file-number : (k v n u : ℕ) → FileWritten.Refused n ≡ fileWritten k v → fileWritten n u ≡ fileWritten k v
+file-number k v n u e = file-made n u (file-refused k v n e .1) ∙ e
 
 pub common-area : (k : ℕ) (v x : Area) → Common.Area x ≡ common k v → (0 ≡ k) × (x ≡ v)
 common-area zero v x e = (refl, cc)
@@ -113,9 +122,28 @@ module _ (number : ℕ) (result : Aligned) (counts counts′ grey grey′ words 
       let l = paired-refused number (result .offset) n (sym e ∙ left .answered) .1 in
       (subst (PairLeft number result counts counts′ grey grey′ words words′) (e ∙ refused-is n m l) left, l)
 
+pub fills-left : (number : ℕ) (out before after : List ℕ) (r : Written) (n : ℕ) → Fills number out before after r → n ≡ refusalIn r
+    → Fills number out before after (written n)
+fills-left number out before after r n left e = record { answered = answer-is number n r e (left .answered); filled = left .filled }
+
+pub bitmaps-left : (number w h t tolerance : ℕ) (grey thresholds thresholds′ exclusions exclusions′ : List ℕ) (r : Written) (n : ℕ)
+    → BitmapsLeft number w h t tolerance grey thresholds thresholds′ exclusions exclusions′ r → n ≡ refusalIn r
+    → BitmapsLeft number w h t tolerance grey thresholds thresholds′ exclusions exclusions′ (written n)
+bitmaps-left number w h t tolerance grey thresholds thresholds′ exclusions exclusions′ r n left e =
+    record { answered = answer-is number n r e (left .answered); thresholdsAre = left .thresholdsAre; exclusionsAre = left .exclusionsAre }
+
+pub file-kept : (number : ℕ) (file out out′ : List ℕ) (r : FileWritten) (n u : ℕ) → FileLeft number file out out′ r → r ≡ FileWritten.Refused n
+    → FileLeft number file out out′ (fileWritten n u)
+file-kept number file out out′ r n u left e =
+    record { answered = file-number number (length file) n u (sym e ∙ left .answered); filled = left .filled }
+
+pub file-accepted : (number : ℕ) (file out out′ : List ℕ) (r : FileWritten) (u : ℕ) → FileLeft number file out out′ r → r ≡ FileWritten.Bytes u
+    → FileLeft number file out out′ (fileWritten 0 u)
+file-accepted number file out out′ r u left e = record { answered = sym e ∙ left .answered; filled = left .filled }
+
 pub series-left : (number : ℕ) (result : Answer) (offsets offsets′ : List ℤ) (counts counts′ grey grey′ words words′ : List ℕ) (r : Written) (n : ℕ)
     → SeriesLeft number result offsets offsets′ counts counts′ grey grey′ words words′ r → n ≡ refusalIn r
     → SeriesLeft number result offsets offsets′ counts counts′ grey grey′ words words′ (written n)
 series-left number result offsets offsets′ counts counts′ grey grey′ words words′ r n left e =
     subst (SeriesLeft number result offsets offsets′ counts counts′ grey grey′ words words′)
-    (left .answered ∙ ap written (sym (written-number number n r e (left .answered)))) left
+    (left .answered ∙ sym (answer-is number n r e (left .answered))) left

@@ -2,11 +2,12 @@
 
 ghost use mathlib.Core.Path.{_≡_};
 ghost use lib.ListN.{length};
+ghost use Rattle.rules.specs.Answers.{written};
 ghost use Rattle.rules.specs.Bitmaps.{bitAt};
 ghost use Rattle.rules.specs.Planes.{total};
 ghost use Rattle.rules.specs.Differences.{difference};
-ghost use Rattle.rules.specs.Refusals.{shiftRefusal, totalRefusal, differenceRefusal};
-ghost use Rattle.rules.specs.Calls.{bitmapsNumber, thresholdsOut, exclusionsOut, shiftOut, planesOf};
+ghost use Rattle.rules.specs.Refusals.{totalRefusal, differenceRefusal};
+ghost use Rattle.rules.specs.Calls.{BitmapsCall, ShiftCall, planesOf};
 ghost use Rattle.mtb.specs.Values.{valueAfter};
 use crate::numbers::refusal_in;
 use rules::Counted;
@@ -21,9 +22,10 @@ pub extern "C" fn mtb_bitmaps(
     thresholds: &mut [u64],
     exclusions: &mut [u64],
 ) -> u32
-    ensures answer { λ n. ⌜ n ≡ bitmapsNumber w h tolerance (now (grey .entry)) (now (thresholds .entry)) (now (exclusions .entry)) ⌝ }
-    ensures thresholds { λ _. ⌜ now (thresholds .exit) ≡ thresholdsOut w h threshold tolerance (now (grey .entry)) (now (thresholds .entry)) (now (exclusions .entry)) ⌝ }
-    ensures exclusions { λ _. ⌜ now (exclusions .exit) ≡ exclusionsOut w h threshold tolerance (now (grey .entry)) (now (thresholds .entry)) (now (exclusions .entry)) ⌝ }
+    ensures { λ n. ⌜
+        BitmapsCall w h threshold tolerance (now (grey .entry))
+        (now (thresholds .entry)) (now (thresholds .exit)) (now (exclusions .entry)) (now (exclusions .exit)) (written n)
+        ⌝ }
 {
     refusal_in(pack::bitmaps(
         w as usize,
@@ -45,8 +47,7 @@ pub extern "C" fn mtb_shift(
     bitmap: &[u64],
     out: &mut [u64],
 ) -> u32
-    ensures answer { λ n. ⌜ n ≡ shiftRefusal w h (length (now (bitmap .entry))) (length (now (out .entry))) ⌝ }
-    ensures output { λ _. ⌜ now (out .exit) ≡ shiftOut w h dx dy (now (bitmap .entry)) (now (out .entry)) ⌝ }
+    ensures { λ n. ⌜ ShiftCall w h dx dy (now (bitmap .entry)) (now (out .entry)) (now (out .exit)) (written n) ⌝ }
 {
     refusal_in(shift::shift(w as usize, h as usize, dx, dy, bitmap, out))
 }

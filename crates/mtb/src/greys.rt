@@ -2,10 +2,11 @@
 
 ghost use mathlib.Core.Path.{_≡_};
 ghost use lib.ListN.{length};
-ghost use Rattle.rules.specs.Refusals.{greyRefusal, halveRefusal, thresholdRefusal};
+ghost use Rattle.rules.specs.Refusals.{thresholdRefusal};
+ghost use Rattle.rules.specs.Answers.{written};
 ghost use Rattle.rules.specs.Frames.{frameOf};
 ghost use Rattle.rules.specs.Thresholds.{threshold};
-ghost use Rattle.rules.specs.Calls.{greyOut, halveOut};
+ghost use Rattle.rules.specs.Calls.{GreyCall, HalveCall};
 ghost use Rattle.mtb.specs.Values.{valueAfter};
 use crate::numbers::refusal_in;
 use grey::to_grey;
@@ -14,16 +15,14 @@ use rules::Thresholded;
 
 #[no_mangle]
 pub extern "C" fn mtb_grey(w: u32, h: u32, raster: &[u8], grey: &mut [u8]) -> u32
-    ensures answer { λ n. ⌜ n ≡ greyRefusal w h (length (now (raster .entry))) (length (now (grey .entry))) ⌝ }
-    ensures output { λ _. ⌜ now (grey .exit) ≡ greyOut w h (now (raster .entry)) (now (grey .entry)) ⌝ }
+    ensures { λ n. ⌜ GreyCall w h (now (raster .entry)) (now (grey .entry)) (now (grey .exit)) (written n) ⌝ }
 {
     refusal_in(to_grey(w as usize, h as usize, raster, grey))
 }
 
 #[no_mangle]
 pub extern "C" fn mtb_halve(w: u32, h: u32, grey: &[u8], out: &mut [u8]) -> u32
-    ensures answer { λ n. ⌜ n ≡ halveRefusal w h (length (now (grey .entry))) (length (now (out .entry))) ⌝ }
-    ensures output { λ _. ⌜ now (out .exit) ≡ halveOut w h (now (grey .entry)) (now (out .entry)) ⌝ }
+    ensures { λ n. ⌜ HalveCall w h (now (grey .entry)) (now (out .entry)) (now (out .exit)) (written n) ⌝ }
 {
     refusal_in(halve(w as usize, h as usize, grey, out))
 }

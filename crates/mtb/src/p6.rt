@@ -3,7 +3,7 @@
 ghost use mathlib.Core.Path.{_≡_};
 ghost use lib.ListN.{length};
 ghost use Rattle.ppm_read.specs.P6.{headerOf, p6Refusal, sizeIn, startIn, rasterOf};
-ghost use Rattle.ppm_write.specs.P6Writes.{p6File, writeRefusal, writeOut};
+ghost use Rattle.ppm_write.specs.P6Writes.{fileWritten, WriteCall};
 ghost use Rattle.mtb.specs.Values.{valueAfter};
 use ppm_read::SizeRead;
 use ppm_read::p6_raster;
@@ -54,9 +54,8 @@ pub extern "C" fn mtb_p6_write(
     out: &mut [u8],
     written: &mut usize,
 ) -> u32
-    ensures answer { λ n. ⌜ n ≡ writeRefusal w h (length (now (raster .entry))) (length (now (out .entry))) ⌝ }
-    ensures output { λ _. ⌜ now (out .exit) ≡ writeOut w h (now (raster .entry)) (now (out .entry)) ⌝ }
-    ensures written { λ k. ⌜ now (written .exit) ≡ valueAfter k (length (p6File w h (now (raster .entry)))) (now (written .entry)) ⌝ }
+    ensures call { λ n. ⌜ WriteCall w h (now (raster .entry)) (now (out .entry)) (now (out .exit)) (fileWritten n (now (written .exit))) ⌝ }
+    ensures refused { λ n. ⌜ ((n ≡ 0 → ⊥) → now (written .exit) ≡ now (written .entry)) ⌝ }
 {
     match p6_write(w as usize, h as usize, raster, out) {
         FileWritten::Bytes(bytes) => {

@@ -3,7 +3,8 @@
 ghost use mathlib.Core.Path.{_≡_};
 ghost use lib.ListN.{length};
 ghost use Rattle.area.specs.Common.{areaRefusal, commonArea};
-ghost use Rattle.moved.specs.Moved.{movedRefusal, movedOut};
+ghost use Rattle.moved.specs.Moved.{MovedCall};
+ghost use Rattle.rules.specs.Answers.{written};
 ghost use Rattle.blink.specs.Blink.{blinkRefusal, rowStart, blinkRow};
 ghost use Rattle.mtb.specs.Values.{valueAfter};
 use crate::numbers::refusal_in;
@@ -45,8 +46,7 @@ pub extern "C" fn mtb_common_area(
 
 #[no_mangle]
 pub extern "C" fn mtb_moved(w: u32, h: u32, dx: i32, dy: i32, raster: &[u8], out: &mut [u8]) -> u32
-    ensures answer { λ n. ⌜ n ≡ movedRefusal w h (length (now (raster .entry))) (length (now (out .entry))) ⌝ }
-    ensures output { λ _. ⌜ now (out .exit) ≡ movedOut w h dx dy (now (raster .entry)) (now (out .entry)) ⌝ }
+    ensures { λ n. ⌜ MovedCall w h dx dy (now (raster .entry)) (now (out .entry)) (now (out .exit)) (written n) ⌝ }
 {
     refusal_in(moved(w as usize, h as usize, dx, dy, raster, out))
 }

@@ -9,9 +9,7 @@ pub mod frame;
 pub mod interval;
 pub mod packed_rows;
 
-ghost use mathlib.Core.Path.{_≡_};
-ghost use Rattle.rules.specs.Answers.{written};
-ghost use Rattle.rules.specs.Calls.{bitmapsNumber, thresholdsOut, exclusionsOut};
+ghost use Rattle.rules.specs.Calls.{BitmapsCall};
 
 // The threshold and the exclusion bitmap of a grey frame for a threshold and a tolerance.
 pub fn bitmaps(
@@ -23,9 +21,10 @@ pub fn bitmaps(
     thresholds: &mut [u64],
     exclusions: &mut [u64],
 ) -> Written
-    ensures answer { λ r. ⌜ r ≡ written (bitmapsNumber w h tolerance (now (grey .entry)) (now (thresholds .entry)) (now (exclusions .entry))) ⌝ }
-    ensures thresholds { λ _. ⌜ now (thresholds .exit) ≡ thresholdsOut w h threshold tolerance (now (grey .entry)) (now (thresholds .entry)) (now (exclusions .entry)) ⌝ }
-    ensures exclusions { λ _. ⌜ now (exclusions .exit) ≡ exclusionsOut w h threshold tolerance (now (grey .entry)) (now (thresholds .entry)) (now (exclusions .entry)) ⌝ }
+    ensures { λ r. ⌜
+        BitmapsCall w h threshold tolerance (now (grey .entry))
+        (now (thresholds .entry)) (now (thresholds .exit)) (now (exclusions .entry)) (now (exclusions .exit)) r
+        ⌝ }
 {
     let n = refusals::bitmaps_refusal(
         w,

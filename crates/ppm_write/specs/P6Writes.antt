@@ -1,4 +1,5 @@
 -- P6 files (Netpbm, document "ppm") as they are written, by document 01.
+use mathlib.Core.Path.{_≡_}
 use mathlib.Core.List.{List, [], _∷_, _++_}
 use Prim.Native.Nat.{ℕ, zero, suc, _+_}
 use lib.ListN.{length}
@@ -25,9 +26,14 @@ abbrev pub fileWritten : ℕ → ℕ → FileWritten
 fileWritten zero n = FileWritten.Bytes n
 fileWritten (suc n) k = FileWritten.Refused (suc n)
 
--- "tells the number of bytes written"
-abbrev pub writeAnswer : ℕ → ℕ → List ℕ → List ℕ → FileWritten
-writeAnswer w h raster out = fileWritten (writeRefusal w h (length raster) (length out)) (length (p6File w h raster))
-
+-- what the buffer holds after the call
 abbrev pub writeOut : ℕ → ℕ → List ℕ → List ℕ → List ℕ
 writeOut w h raster out = bufferAfter (writeRefusal w h (length raster) (length out)) (p6File w h raster) out
+
+-- what the writer leaves with this refusal number and this file: it "tells the number of bytes written"
+pub record FileLeft (number : ℕ) (file out out′ : List ℕ) (r : FileWritten) : Type 0 where
+  pub answered : r ≡ fileWritten number (length file)
+  pub filled : out′ ≡ bufferAfter number file out
+
+abbrev pub WriteCall : ℕ → ℕ → List ℕ → List ℕ → List ℕ → FileWritten → Type 0
+WriteCall w h raster out out′ r = FileLeft (writeRefusal w h (length raster) (length out)) (p6File w h raster) out out′ r

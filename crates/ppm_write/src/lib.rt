@@ -2,8 +2,7 @@
 
 pub mod writing;
 
-ghost use mathlib.Core.Path.{_≡_};
-ghost use Rattle.ppm_write.specs.P6Writes.{writeAnswer, writeOut};
+ghost use Rattle.ppm_write.specs.P6Writes.{WriteCall};
 
 // The answer of the writer: the number of bytes written.
 pub enum FileWritten {
@@ -13,8 +12,7 @@ pub enum FileWritten {
 
 // Writes a P6 file into a lent buffer, and tells the number of its bytes.
 pub fn p6_write(w: usize, h: usize, raster: &[u8], out: &mut [u8]) -> FileWritten
-    ensures answer { λ r. ⌜ r ≡ writeAnswer w h (now (raster .entry)) (now (out .entry)) ⌝ }
-    ensures output { λ _. ⌜ now (out .exit) ≡ writeOut w h (now (raster .entry)) (now (out .entry)) ⌝ }
+    ensures { λ r. ⌜ WriteCall w h (now (raster .entry)) (now (out .entry)) (now (out .exit)) r ⌝ }
 {
     let n = writing::write_refusal(w, h, raster.len(), out.len());
     if n != 0 {

@@ -1,4 +1,4 @@
--- For each offered call its answer, and what each lent buffer holds when it returns, from the call's inputs alone.
+-- For each offered call one definition of what it leaves: its answer, and what each lent buffer holds when it returns, from the call's inputs alone.
 use mathlib.Core.Path.{_≡_}
 use mathlib.Core.List.{List}
 use Prim.Native.Nat.{ℕ, _/_}
@@ -22,43 +22,38 @@ use Rattle.rules.specs.Refusals.{greyRefusal, halveRefusal, thresholdRef
 use Rattle.rules.specs.Series.{Settings, Answer, seriesAnswer}
 use Rattle.rules.specs.Answers.{written, counted, thresholded, paired, bufferAfter}
 
--- Grey conversion of a raster into a lent grey frame.
-abbrev pub greyAnswer : ℕ → ℕ → List ℕ → List ℕ → Written
-greyAnswer w h raster grey = written (greyRefusal w h (length raster) (length grey))
+-- what a call that fills a lent buffer leaves, with this refusal number and this output: its answer, and the buffer before and after it
+pub record Fills (number : ℕ) (out before after : List ℕ) (r : Written) : Type 0 where
+  pub answered : r ≡ written number
+  pub filled : after ≡ bufferAfter number out before
 
-abbrev pub greyOut : ℕ → ℕ → List ℕ → List ℕ → List ℕ
-greyOut w h raster grey = bufferAfter (greyRefusal w h (length raster) (length grey)) (rows w h (greyFrame w raster)) grey
+-- Grey conversion of a raster into a lent grey frame.
+abbrev pub GreyCall : ℕ → ℕ → List ℕ → List ℕ → List ℕ → Written → Type 0
+GreyCall w h raster grey grey′ r = Fills (greyRefusal w h (length raster) (length grey)) (rows w h (greyFrame w raster)) grey grey′ r
 
 -- Halving of a grey frame into a lent one.
-abbrev pub halveAnswer : ℕ → ℕ → List ℕ → List ℕ → Written
-halveAnswer w h grey out = written (halveRefusal w h (length grey) (length out))
-
-abbrev pub halveOut : ℕ → ℕ → List ℕ → List ℕ → List ℕ
-halveOut w h grey out = bufferAfter (halveRefusal w h (length grey) (length out)) (rows (w / 2) (h / 2) (halved (frameOf w grey))) out
+abbrev pub HalveCall : ℕ → ℕ → List ℕ → List ℕ → List ℕ → Written → Type 0
+HalveCall w h grey out out′ r =
+    Fills (halveRefusal w h (length grey) (length out)) (rows (w / 2) (h / 2) (halved (frameOf w grey))) out out′ r
 
 -- Threshold of a grey frame for a percentile.
 abbrev pub thresholdAnswer : ℕ → ℕ → ℕ → List ℕ → Thresholded
 thresholdAnswer w h percentile grey = thresholded (thresholdRefusal w h percentile (length grey)) (threshold w h percentile (frameOf w grey))
 
--- Threshold and exclusion bitmap of a grey frame for a threshold and a tolerance.
-abbrev pub bitmapsNumber : ℕ → ℕ → ℕ → List ℕ → List ℕ → List ℕ → ℕ
-bitmapsNumber w h tolerance grey thresholds exclusions = bitmapsRefusal w h tolerance (length grey) (length thresholds) (length exclusions)
+-- Threshold and exclusion bitmap of a grey frame for a threshold and a tolerance: what is left with this refusal number, and the call.
+pub record BitmapsLeft (number w h t tolerance : ℕ) (grey thresholds thresholds′ exclusions exclusions′ : List ℕ) (r : Written) : Type 0 where
+  pub answered : r ≡ written number
+  pub thresholdsAre : thresholds′ ≡ bufferAfter number (packed w h (bitsBy (thresholdBit t) (frameOf w grey))) thresholds
+  pub exclusionsAre : exclusions′ ≡ bufferAfter number (packed w h (bitsBy (exclusionBit t tolerance) (frameOf w grey))) exclusions
 
-abbrev pub thresholdsOut : ℕ → ℕ → ℕ → ℕ → List ℕ → List ℕ → List ℕ → List ℕ
-thresholdsOut w h t tolerance grey thresholds exclusions =
-    bufferAfter (bitmapsNumber w h tolerance grey thresholds exclusions) (packed w h (bitsBy (thresholdBit t) (frameOf w grey))) thresholds
-
-abbrev pub exclusionsOut : ℕ → ℕ → ℕ → ℕ → List ℕ → List ℕ → List ℕ → List ℕ
-exclusionsOut w h t tolerance grey thresholds exclusions =
-    bufferAfter (bitmapsNumber w h tolerance grey thresholds exclusions) (packed w h (bitsBy (exclusionBit t tolerance) (frameOf w grey))) exclusions
+abbrev pub BitmapsCall : ℕ → ℕ → ℕ → ℕ → List ℕ → List ℕ → List ℕ → List ℕ → List ℕ → Written → Type 0
+BitmapsCall w h t tolerance grey thresholds thresholds′ exclusions exclusions′ r =
+    BitmapsLeft (bitmapsRefusal w h tolerance (length grey) (length thresholds) (length exclusions)) w h t tolerance grey thresholds thresholds′ exclusions exclusions′ r
 
 -- Shift of a lent bitmap into a lent one.
-abbrev pub shiftAnswer : ℕ → ℕ → List ℕ → List ℕ → Written
-shiftAnswer w h bitmap out = written (shiftRefusal w h (length bitmap) (length out))
-
-abbrev pub shiftOut : ℕ → ℕ → ℤ → ℤ → List ℕ → List ℕ → List ℕ
-shiftOut w h dx dy bitmap out =
-    bufferAfter (shiftRefusal w h (length bitmap) (length out)) (packed w h (shifted w h dx dy (bitAt w h bitmap))) out
+abbrev pub ShiftCall : ℕ → ℕ → ℤ → ℤ → List ℕ → List ℕ → List ℕ → Written → Type 0
+ShiftCall w h dx dy bitmap out out′ r =
+    Fills (shiftRefusal w h (length bitmap) (length out)) (packed w h (shifted w h dx dy (bitAt w h bitmap))) out out′ r
 
 -- Total of a lent bitmap.
 abbrev pub totalAnswer : ℕ → ℕ → List ℕ → Counted

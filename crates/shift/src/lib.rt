@@ -1,7 +1,6 @@
 // The offered shift of a packed bitmap.
 
-ghost use mathlib.Core.Path.{_≡_};
-ghost use Rattle.rules.specs.Calls.{shiftAnswer, shiftOut};
+ghost use Rattle.rules.specs.Calls.{ShiftCall};
 use refusals::shift_refusal;
 use rules::Written;
 
@@ -9,8 +8,7 @@ pub mod moved_rows;
 
 // Shift of a lent bitmap into a lent one, by any two signed numbers.
 pub fn shift(w: usize, h: usize, dx: i32, dy: i32, bitmap: &[u64], out: &mut [u64]) -> Written
-    ensures answer { λ r. ⌜ r ≡ shiftAnswer w h (now (bitmap .entry)) (now (out .entry)) ⌝ }
-    ensures output { λ _. ⌜ now (out .exit) ≡ shiftOut w h dx dy (now (bitmap .entry)) (now (out .entry)) ⌝ }
+    ensures { λ r. ⌜ ShiftCall w h dx dy (now (bitmap .entry)) (now (out .entry)) (now (out .exit)) r ⌝ }
 {
     let n = shift_refusal(w, h, bitmap.len(), out.len());
     if n != 0 {

@@ -17,7 +17,7 @@ grey-refusal-requires c κs = search needs
 returns : tie.Need-returns
 returns c =
     rw (← c .before .grey-refusal .ensures)
-    (written-refused _ (c .if1 .taken), buffer-refused _ _ _ (c .if1 .taken))
+    (record { answered = written-refused _ (c .if1 .taken); filled = buffer-refused _ _ _ (c .if1 .taken) })
 
 -- what an accepted call knows of its sizes
 accepted : (c : tie.Else1)
@@ -42,17 +42,17 @@ returns-2 c =
     let taken = done .before .before in
     let a = taken .before .before .before .before .args in
     let e = sym (taken .before .grey-refusal .ensures) ∙ taken .if1 .left in
-    rw e (
-      refl,
-      frame-written
+    rw e (record {
+      answered = refl;
+      filled = frame-written
           (a .w)
           (a .h)
           (greyFrame (a .w) (a .raster .now))
           (a .grey .now)
           (done .convert .last .1 .1 .0)
           (accepted taken .room)
-          (flat-frame 0 (a .w) (a .h) (greyAt (a .raster .now)) (a .grey .now) (done .convert .last .1 .1 .0) (done .convert .ensures)),
-    )
+          (flat-frame 0 (a .w) (a .h) (greyAt (a .raster .now)) (a .grey .now) (done .convert .last .1 .1 .0) (done .convert .ensures));
+    })
 
 pub to-grey-spec : {M : Type 1} → statement M
 to-grey-spec =

@@ -18,7 +18,7 @@ halve-refusal-requires c κs = search needs
 returns : tie.Need-returns
 returns c =
     rw (← c .before .halve-refusal .ensures)
-    (written-refused _ (c .if1 .taken), buffer-refused _ _ _ (c .if1 .taken))
+    (record { answered = written-refused _ (c .if1 .taken); filled = buffer-refused _ _ _ (c .if1 .taken) })
 
 -- what an accepted call knows of its sizes
 accepted : (c : tie.Else1)
@@ -39,17 +39,17 @@ returns-2 c =
     let taken = done .before .before in
     let a = taken .before .before .before .before .args in
     let e = sym (taken .before .halve-refusal .ensures) ∙ taken .if1 .left in
-    rw e (
-      refl,
-      frame-written
+    rw e (record {
+      answered = refl;
+      filled = frame-written
           (a .w / 2)
           (a .h / 2)
           (halved (frameOf (a .w) (a .grey .now)))
           (a .out .now)
           (done .halve-frame .last .1 .1 .1 .0)
           (accepted taken .room)
-          (done .halve-frame .ensures),
-    )
+          (done .halve-frame .ensures);
+    })
 
 pub halve-spec : {M : Type 1} → statement M
 halve-spec =

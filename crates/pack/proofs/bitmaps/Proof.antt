@@ -16,7 +16,7 @@ bitmaps-refusal-requires c κs = search needs
 returns : tie.Need-returns
 returns c =
     rw (← c .before .bitmaps-refusal .ensures)
-    (written-refused _ (c .if1 .taken), (buffer-refused _ _ _ (c .if1 .taken), buffer-refused _ _ _ (c .if1 .taken)))
+    (record { answered = written-refused _ (c .if1 .taken); thresholdsAre = buffer-refused _ _ _ (c .if1 .taken); exclusionsAre = buffer-refused _ _ _ (c .if1 .taken) })
 
 low-end-requires : tie.Need-low-end-requires
 low-end-requires c κs = search needs
@@ -47,13 +47,7 @@ returns-2 c =
     let ends = ap₂ (λ (lo hi : ℕ). outsidePlane lo hi (a .w) (a .grey .now)) (sym low) (sym high) in
     let bytes : (i : ℕ) → getD (a .grey .now) i 0 < 256 = λ i. accepted .before .before .before .before .shared-slice-known .given i .fits in
     let f = c .before .before .before .before .pack-frame in
-    rw e (
-      refl,
-      (
-        packed-plane (a .w) (a .h) _ _ (a .thresholds .now) _ (threshold-plane (a .threshold) (a .w) (a .grey .now)) (k .room1) (f .ensures .0),
-        packed-plane (a .w) (a .h) _ _ (a .exclusions .now) _ (exclusion-plane (a .threshold) (a .tolerance) (a .w) (a .grey .now) bytes ∙ ends) (k .room2) (f .ensures .1),
-      ),
-    )
+    rw e (record { answered = refl; thresholdsAre = packed-plane (a .w) (a .h) _ _ (a .thresholds .now) _ (threshold-plane (a .threshold) (a .w) (a .grey .now)) (k .room1) (f .ensures .0); exclusionsAre = packed-plane (a .w) (a .h) _ _ (a .exclusions .now) _ (exclusion-plane (a .threshold) (a .tolerance) (a .w) (a .grey .now) bytes ∙ ends) (k .room2) (f .ensures .1) })
 
 pub bitmaps-spec : {M : Type 1} → statement M
 bitmaps-spec =

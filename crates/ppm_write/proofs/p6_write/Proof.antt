@@ -17,7 +17,7 @@ write-refusal-requires c κs = search needs
 returns : tie.Need-returns
 returns c =
     rw (← c .before .write-refusal .ensures)
-    (file-refused _ _ (c .if1 .taken), buffer-refused _ _ _ (c .if1 .taken))
+    (record { answered = file-refused _ _ (c .if1 .taken); filled = buffer-refused _ _ _ (c .if1 .taken) })
 
 -- what an accepted call knows of its sizes
 accepted : (c : tie.Else1)
@@ -53,7 +53,7 @@ returns-2 c =
     let p = last .before .before .before .before in
     let e = p .before .before in
     let b = begun-more _ _ _ _ _ _ _ (begun p) (last .put .ensures .0) (last .put .ensures .1) in
-    rw (sym (e .before .write-refusal .ensures) ∙ e .if1 .left) (ap FileWritten.Bytes (b .place), put-written _ _ _ (b .put))
+    rw (sym (e .before .write-refusal .ensures) ∙ e .if1 .left) (record { answered = ap FileWritten.Bytes (b .place); filled = put-written _ _ _ (b .put) })
 
 pub p6-write-spec : {M : Type 1} → statement M
 p6-write-spec =

@@ -15,7 +15,7 @@ shift-refusal-requires c κs = search needs
 
 returns : tie.Need-returns
 returns c =
-    rw (← c .before .shift-refusal .ensures) (written-refused _ (c .if1 .taken), buffer-refused _ _ _ (c .if1 .taken))
+    rw (← c .before .shift-refusal .ensures) (record { answered = written-refused _ (c .if1 .taken); filled = buffer-refused _ _ _ (c .if1 .taken) })
 
 shift-bitmap-requires : tie.Need-shift-bitmap-requires
 shift-bitmap-requires c κs =
@@ -29,11 +29,11 @@ returns-2 c =
     let s = c .before .before .before .before .before .before .before .before in
     let a = s .args in
     let e = sym (c .before .before .before .before .before .shift-refusal .ensures) ∙ c .before .before .before .before .if1 .left in
-    rw e (
-      refl,
-      c .before .before .shift-bitmap .ensures
-          ∙ (λ i. writtenOver (packed (a .w) (a .h) (shifted (a .w) (a .h) (toZ-ofZ (s .fits .dx) i) (toZ-ofZ (s .fits .dy) i) (bitAt (a .w) (a .h) (now (a .bitmap))))) (now (a .out))),
-    )
+    rw e (record {
+      answered = refl;
+      filled = c .before .before .shift-bitmap .ensures
+          ∙ (λ i. writtenOver (packed (a .w) (a .h) (shifted (a .w) (a .h) (toZ-ofZ (s .fits .dx) i) (toZ-ofZ (s .fits .dy) i) (bitAt (a .w) (a .h) (now (a .bitmap))))) (now (a .out)));
+    })
 
 pub shift-spec : {M : Type 1} → statement M
 shift-spec =

@@ -1,6 +1,6 @@
 -- The offered call's own contract; its answer is told as a number.
 use borrow.Author.Needs.{needs}
-use Rattle.mtb.proofs.ValueLaws.{written-number}
+use Rattle.mtb.proofs.ValueLaws.{bitmaps-left}
 use Rattle.mtb.proofs.bitmaps.mtb_bitmaps.Statement.{statement}
 use Rattle.mtb.proofs.bitmaps.mtb_bitmaps.Tie as tie
 
@@ -19,7 +19,7 @@ same-length-2 c = search needs
 returns : tie.Need-returns
 returns c =
     let call = c .before .before .before .before .before .bitmaps in
-    (written-number _ _ _ (c .refusal-in .ensures) (call .ensures .0), (call .ensures .1 .0, call .ensures .1 .1))
+    bitmaps-left _ _ _ _ _ _ _ _ _ _ _ _ (call .ensures) (c .refusal-in .ensures)
 
 pub mtb-bitmaps-spec : {M : Type 1} → statement M
 mtb-bitmaps-spec =

@@ -1,9 +1,10 @@
 -- The offered call's own contract, at the moves as they were passed; its answer is told as a number.
-use mathlib.Core.Path.{_∙_}
+use mathlib.Core.Path.{subst}
+use lib.IntN.{ℤ}
 use mir.Facts.{toZ-ofZ}
 use borrow.Author.Needs.{needs}
-use Rattle.rules.specs.Calls.{shiftOut}
-use Rattle.mtb.proofs.ValueLaws.{written-number}
+use Rattle.rules.specs.Calls.{ShiftCall}
+use Rattle.mtb.proofs.ValueLaws.{fills-left}
 use Rattle.mtb.proofs.bitmaps.mtb_shift.Statement.{statement}
 use Rattle.mtb.proofs.bitmaps.mtb_shift.Tie as tie
 
@@ -20,11 +21,11 @@ returns : tie.Need-returns
 returns c =
     let s = c .before .before .before .before .before .before .before in
     let a = s .args in
-    let call = c .before .before .before .shift in (
-      written-number _ _ _ (c .refusal-in .ensures) (call .ensures .0),
-      call .ensures .1
-          ∙ (λ i. shiftOut (a .w) (a .h) (toZ-ofZ (s .fits .dx) i) (toZ-ofZ (s .fits .dy) i) (a .bitmap .now) (a .out .now)),
-    )
+    let call = c .before .before .before .shift in
+    fills-left _ _ _ _ _ _
+    (subst (λ (x : ℤ). ShiftCall (a .w) (a .h) x (a .dy) (a .bitmap .now) (a .out .now) _ (call .result)) (toZ-ofZ (s .fits .dx))
+    (subst (λ (y : ℤ). ShiftCall (a .w) (a .h) _ y (a .bitmap .now) (a .out .now) _ (call .result)) (toZ-ofZ (s .fits .dy)) (call .ensures)))
+    (c .refusal-in .ensures)
 
 pub mtb-shift-spec : {M : Type 1} → statement M
 mtb-shift-spec = tie.close (tie.spec shift-requires refusal-in-requires same-length returns)

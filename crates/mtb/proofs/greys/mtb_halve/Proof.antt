@@ -1,5 +1,5 @@
 use borrow.Author.Needs.{needs}
-use Rattle.mtb.proofs.ValueLaws.{written-number}
+use Rattle.mtb.proofs.ValueLaws.{fills-left}
 use Rattle.mtb.proofs.greys.mtb_halve.Statement.{statement}
 use Rattle.mtb.proofs.greys.mtb_halve.Tie as tie
 
@@ -15,7 +15,7 @@ same-length c = search needs
 returns : tie.Need-returns
 returns c =
     let call = c .before .before .before .halve in
-    (written-number _ _ _ (c .refusal-in .ensures) (call .ensures .0), call .ensures .1)
+    fills-left _ _ _ _ _ _ (call .ensures) (c .refusal-in .ensures)
 
 pub mtb-halve-spec : {M : Type 1} → statement M
 mtb-halve-spec = tie.close (tie.spec halve-requires refusal-in-requires same-length returns)

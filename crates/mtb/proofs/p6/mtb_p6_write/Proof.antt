@@ -1,7 +1,7 @@
--- An accepted call's bytes are told; a refused one's number is, and the pointer's place is left. The buffer is the offered call's.
-use mathlib.Core.Path.{sym, _∙_}
+-- An accepted call's bytes stand behind the pointer; a refused one leaves it. The buffer is the offered call's.
+use mathlib.Core.Path.{refl}
 use borrow.Author.Needs.{needs}
-use Rattle.mtb.proofs.ValueLaws.{written-bytes, file-refused, value-kept}
+use Rattle.mtb.proofs.ValueLaws.{file-accepted, file-kept}
 use Rattle.mtb.proofs.p6.mtb_p6_write.Statement.{statement}
 use Rattle.mtb.proofs.p6.mtb_p6_write.Tie as tie
 
@@ -20,8 +20,7 @@ same-length c = search needs
 returns : tie.Need-returns
 returns c =
     let call = c .before .before .before .before .before .p6-write in
-    let m = written-bytes _ _ _ (sym (c .before .bytes .given .1) ∙ call .ensures .0) in
-    (m .0, (call .ensures .1, m .1))
+    (file-accepted _ _ _ _ _ _ (call .ensures) (c .before .bytes .given .1), λ f. absurd (f refl))
 
 same-length-2 : tie.Need-same-length-2
 same-length-2 c = search needs
@@ -29,8 +28,7 @@ same-length-2 c = search needs
 returns-2 : tie.Need-returns-2
 returns-2 c =
     let call = c .before .before .before .before .before .p6-write in
-    let m = file-refused _ _ _ (sym (c .before .n .given .1) ∙ call .ensures .0) in
-    (m .0, (call .ensures .1, value-kept _ _ _ (m .1)))
+    (file-kept _ _ _ _ _ _ _ (call .ensures) (c .before .n .given .1), λ f. refl)
 
 pub mtb-p6-write-spec : {M : Type 1} → statement M
 mtb-p6-write-spec =
