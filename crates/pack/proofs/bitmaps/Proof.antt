@@ -47,7 +47,12 @@ returns-2 c =
     let ends = ap₂ (λ (lo hi : ℕ). outsidePlane lo hi (a .w) (a .grey .now)) (sym low) (sym high) in
     let bytes : (i : ℕ) → getD (a .grey .now) i 0 < 256 = λ i. accepted .before .before .before .before .shared-slice-known .given i .fits in
     let f = c .before .before .before .before .pack-frame in
-    rw e (record { answered = refl; thresholdsAre = packed-plane (a .w) (a .h) _ _ (a .thresholds .now) _ (threshold-plane (a .threshold) (a .w) (a .grey .now)) (k .room1) (f .ensures .0); exclusionsAre = packed-plane (a .w) (a .h) _ _ (a .exclusions .now) _ (exclusion-plane (a .threshold) (a .tolerance) (a .w) (a .grey .now) bytes ∙ ends) (k .room2) (f .ensures .1) })
+    rw e (record {
+      answered = refl;
+      thresholdsAre = packed-plane (a .w) (a .h) _ _ (a .thresholds .now) _ (threshold-plane (a .threshold) (a .w) (a .grey .now)) (k .room1) (f .ensures .0);
+      exclusionsAre =
+          packed-plane (a .w) (a .h) _ _ (a .exclusions .now) _ (exclusion-plane (a .threshold) (a .tolerance) (a .w) (a .grey .now) bytes ∙ ends) (k .room2) (f .ensures .1);
+    })
 
 pub bitmaps-spec : {M : Type 1} → statement M
 bitmaps-spec =
