@@ -48,5 +48,7 @@ examples-hold =
     reexposed
 
 pub two-levels : TwoLevels
-unfolding sum sumPixels frameOf insert sorted secondSmallest halved atMost reaches least threshold thresholdBit distance exclusionBit within differ differAt difference planesBy firstLeast chosen level countAt pair
+unfolding sum sumPixels frameOf insert sorted secondSmallest halved atMost reaches least threshold thresholdBit
+
+unfolding distance exclusionBit within differ differAt difference planesBy firstLeast chosen level countAt pair
 two-levels = refl

@@ -45,7 +45,10 @@ returns-2 c =
     let a = s .args in
     let columns = subst (λ (d : ℤ). Clipped (a .w) d (done .before .before .clip .result)) (toZ-ofZ (s .fits .dx)) (done .before .before .clip .ensures) in
     let lines = subst (λ (d : ℤ). Clipped (a .h) d (done .before .clip2 .result)) (toZ-ofZ (s .fits .dy)) (done .before .clip2 .ensures) in
-    rw (sym (taken .before .moved-refusal .ensures) ∙ taken .if1 .left) (record { answered = refl; filled = moved-written (a .w) (a .h) (a .dx) (a .dy) (a .raster .now) (a .out .now) (done .place-rows .last .1 .0) _ _ columns lines (accepted taken .room) (done .place-rows .ensures) })
+    rw (sym (taken .before .moved-refusal .ensures) ∙ taken .if1 .left) (record {
+      answered = refl;
+      filled = moved-written (a .w) (a .h) (a .dx) (a .dy) (a .raster .now) (a .out .now) (done .place-rows .last .1 .0) _ _ columns lines (accepted taken .room) (done .place-rows .ensures);
+    })
 
 pub moved-spec : {M : Type 1} → statement M
 moved-spec =
