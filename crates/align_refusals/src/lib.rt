@@ -11,7 +11,7 @@ use refusals::lowest;
 use refusals::row_words;
 ghost use mathlib.Core.Path.{_≡_};
 ghost use Prim.Native.Nat.{_<_, _≤_};
-ghost use Rattle.rules.specs.Refusals.{_when_, _orElse_, badSize, badHalvings, tooSmall, badPercentiles, levelPixels, shortMemory, pairRefusal, seriesRefusal};
+ghost use Rattle.rules.specs.Refusals.{shapeRefusal, badPercentiles, levelPixels, shortMemory, pairRefusal, seriesRefusal};
 
 // The pixels of all levels of a frame.
 pub fn level_pixels(w: usize, h: usize, s: u32) -> usize
@@ -26,7 +26,7 @@ pub fn level_pixels(w: usize, h: usize, s: u32) -> usize
 
 // 2, 3, 4: what is wrong with sizes and halvings.
 pub fn shape_refusal(w: usize, h: usize, s: u32) -> u32
-    ensures { λ r. ⌜ r ≡ 2 when badSize w h orElse 3 when badHalvings s orElse 4 when tooSmall w h s ⌝ }
+    ensures { λ r. ⌜ r ≡ shapeRefusal w h s ⌝ }
 {
     if bad_size(w, h) {
         return 2;

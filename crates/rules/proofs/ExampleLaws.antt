@@ -49,6 +49,5 @@ examples-hold =
 
 pub two-levels : TwoLevels
 unfolding sum sumPixels frameOf insert sorted secondSmallest halved atMost reaches least threshold thresholdBit
-
-unfolding distance exclusionBit within differ differAt difference planesBy firstLeast chosen level countAt pair
+    distance exclusionBit within differ differAt difference planesBy firstLeast chosen level countAt pair
 two-levels = refl

@@ -3,15 +3,16 @@ use mathlib.Core.Path.{_≡_}
 use mathlib.Core.List.{List}
 use Prim.Native.Nat.{ℕ, _+_, _*_, _-_, _/_, _^_, _≤_, _<_}
 use lib.ListN.{length, getD}
+use Rattle.rules.specs.Limits.{maxSide, maxTolerance, maxHalvings, maxFrames}
 use Rattle.rules.specs.Bitmaps.{rowWords}
 use Rattle.rules.specs.Refusals.{greyNeeded}
 
 -- sizes within their limits
 pub record SizeOk (w h : ℕ) : Type 0 where
   pub wide : 0 < w
-  pub width : w ≤ 4096
+  pub width : w ≤ maxSide
   pub high : 0 < h
-  pub height : h ≤ 4096
+  pub height : h ≤ maxSide
   pub area : w * h ≤ 16777216
   pub rowOfWords : rowWords w ≤ 64
   pub bitmap : rowWords w * h ≤ 262144
@@ -36,7 +37,7 @@ pub record ThresholdOk (w h percentile grey : ℕ) : Type 0 where
 
 pub record BitmapsOk (w h tolerance grey thresholds exclusions : ℕ) : Type 0 where
   pub size : SizeOk w h
-  pub most : tolerance ≤ 64
+  pub most : tolerance ≤ maxTolerance
   pub exact : grey ≡ w * h
   pub room1 : rowWords w * h ≤ thresholds
   pub room2 : rowWords w * h ≤ exclusions
@@ -60,7 +61,7 @@ pub record DifferenceOk (w h threshold1 exclusion1 threshold2 exclusion2 : ℕ) 
 -- "A pair has s halvings, 0 to 8": the smallest level still has 4 pixels each way.
 pub record ShapeOk (w h s : ℕ) : Type 0 where
   pub size : SizeOk w h
-  pub halvings : s ≤ 8
+  pub halvings : s ≤ maxHalvings
   pub wide : 2 ^ (s + 2) ≤ w
   pub high : 2 ^ (s + 2) ≤ h
 
@@ -76,12 +77,12 @@ pub record PairOk (w h s percentile first second counts grey words : ℕ) : Type
 
 pub record FramesOk (n r : ℕ) : Type 0 where
   pub least : 0 < n
-  pub most : n ≤ 16
+  pub most : n ≤ maxFrames
   pub reference : r < n
 
 pub record SeriesOk (w h s n r : ℕ) (ps : List ℕ) (rasters offsets counts grey words : ℕ) : Type 0 where
   pub shape : ShapeOk w h s
-  pub frames : (0 < n) × (n ≤ 16)
+  pub frames : (0 < n) × (n ≤ maxFrames)
   pub reference : r < n
   pub percentiles : length ps ≡ n - 1
   pub percentile : (k : ℕ) → k < n - 1 → (1 ≤ getD ps k 0) × (getD ps k 0 ≤ 99)
