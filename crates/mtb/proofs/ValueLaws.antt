@@ -126,6 +126,12 @@ pub fills-left : (number : ℕ) (out before after : List ℕ) (r : Written) (n :
     → Fills number out before after (written n)
 fills-left number out before after r n left e = record { answered = answer-is number n r e (left .answered); filled = left .filled }
 
+-- the same, where what fills the output is made by numbers as they were passed
+pub passed-left : (number : ℕ) (out passed before after : List ℕ) (r : Written) (n : ℕ) → passed ≡ out → Fills number passed before after r → n ≡ refusalIn r
+    → Fills number out before after (written n)
+passed-left number out passed before after r n same left e =
+    fills-left number out before after r n (subst (λ (xs : List ℕ). Fills number xs before after r) same left) e
+
 pub bitmaps-left : (number w h t tolerance : ℕ) (grey thresholds thresholds′ exclusions exclusions′ : List ℕ) (r : Written) (n : ℕ)
     → BitmapsLeft number w h t tolerance grey thresholds thresholds′ exclusions exclusions′ r → n ≡ refusalIn r
     → BitmapsLeft number w h t tolerance grey thresholds thresholds′ exclusions exclusions′ (written n)

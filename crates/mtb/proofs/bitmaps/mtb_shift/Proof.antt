@@ -1,10 +1,9 @@
 -- The offered call's own contract, at the moves as they were passed; its answer is told as a number.
-use mathlib.Core.Path.{subst}
-use lib.IntN.{ℤ}
 use mir.Facts.{toZ-ofZ}
 use borrow.Author.Needs.{needs}
-use Rattle.rules.specs.Calls.{ShiftCall}
-use Rattle.mtb.proofs.ValueLaws.{fills-left}
+use Rattle.rules.specs.Planes.{shifted}
+use Rattle.rules.specs.Bitmaps.{bitAt, packed}
+use Rattle.mtb.proofs.ValueLaws.{passed-left}
 use Rattle.mtb.proofs.bitmaps.mtb_shift.Statement.{statement}
 use Rattle.mtb.proofs.bitmaps.mtb_shift.Tie as tie
 
@@ -22,9 +21,9 @@ returns c =
     let s = c .before .before .before .before .before .before .before in
     let a = s .args in
     let call = c .before .before .before .shift in
-    fills-left _ _ _ _ _ _
-    (subst (λ (x : ℤ). ShiftCall (a .w) (a .h) x (a .dy) (a .bitmap .now) (a .out .now) _ (call .result)) (toZ-ofZ (s .fits .dx))
-    (subst (λ (y : ℤ). ShiftCall (a .w) (a .h) _ y (a .bitmap .now) (a .out .now) _ (call .result)) (toZ-ofZ (s .fits .dy)) (call .ensures)))
+    passed-left _ _ _ _ _ _ _
+    (λ i. packed (a .w) (a .h) (shifted (a .w) (a .h) (toZ-ofZ (s .fits .dx) i) (toZ-ofZ (s .fits .dy) i) (bitAt (a .w) (a .h) (a .bitmap .now))))
+    (call .ensures)
     (c .refusal-in .ensures)
 
 pub mtb-shift-spec : {M : Type 1} → statement M

@@ -1,10 +1,10 @@
 -- The offered call's own contract, at the moves as they were passed; its answer is told as a number.
-use mathlib.Core.Path.{subst}
-use lib.IntN.{ℤ}
+use Prim.Native.Nat.{_*_}
 use mir.Facts.{toZ-ofZ}
 use borrow.Author.Needs.{needs}
-use Rattle.moved.specs.Moved.{MovedCall}
-use Rattle.mtb.proofs.ValueLaws.{fills-left}
+use Rattle.rules.specs.Frames.{rows}
+use Rattle.moved.specs.Moved.{movedByte}
+use Rattle.mtb.proofs.ValueLaws.{passed-left}
 use Rattle.mtb.proofs.views.mtb_moved.Statement.{statement}
 use Rattle.mtb.proofs.views.mtb_moved.Tie as tie
 
@@ -22,9 +22,9 @@ returns c =
     let s = c .before .before .before .before .before .before .before in
     let a = s .args in
     let call = c .before .before .before .moved in
-    fills-left _ _ _ _ _ _
-    (subst (λ (x : ℤ). MovedCall (a .w) (a .h) x (a .dy) (a .raster .now) (a .out .now) _ (call .result)) (toZ-ofZ (s .fits .dx))
-    (subst (λ (y : ℤ). MovedCall (a .w) (a .h) _ y (a .raster .now) (a .out .now) _ (call .result)) (toZ-ofZ (s .fits .dy)) (call .ensures)))
+    passed-left _ _ _ _ _ _ _
+    (λ i. rows (3 * a .w) (a .h) (movedByte (a .w) (a .h) (toZ-ofZ (s .fits .dx) i) (toZ-ofZ (s .fits .dy) i) (a .raster .now)))
+    (call .ensures)
     (c .refusal-in .ensures)
 
 pub mtb-moved-spec : {M : Type 1} → statement M
