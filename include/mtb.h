@@ -45,8 +45,8 @@
  *
  * STACK
  *   Bytes, with stacked arguments and return address:
- *     mtb_pair        5488 + 336*s, so 8176 at most     mtb_threshold    4176
- *     mtb_series      5584 + 336*s, so 8272 at most     mtb_difference   1040
+ *     mtb_pair        5752 + 368*s, so 8696 at most     mtb_threshold    4160
+ *     mtb_series      5960 + 368*s, so 8904 at most     mtb_difference   1008
  *     every other function: below 400
  *   Measured, not proved (tests/outside/run stack): each call was run on a painted stack, and the deepest changed
  *   byte was looked for, over frames from 1 by 1 to 4096 by 4096 with every s that they allow and
