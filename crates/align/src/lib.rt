@@ -1,28 +1,16 @@
 // The recursive alignment of two grey frames that stand in lent memory.
 
+use candidates::doubled;
 use level::align_level;
 use pyramid::halve_within;
 use rules::Offset;
 use rules::Setup;
-ghost use mathlib.Core.Path.{_≡_};
 ghost use Prim.Native.Nat.{_+_, _*_, _≤_};
 ghost use lib.ListN.{length};
-ghost use Rattle.rules.specs.Limits.{maxOffset};
 ghost use Rattle.rules.specs.Bitmaps.{rowWords};
-ghost use Rattle.rules.specs.Levels.{added, Near, Arrangement, arranged};
+ghost use Rattle.rules.specs.Levels.{Arrangement, arranged};
 ghost use Rattle.popcount.specs.Table.{CountsBits};
 ghost use Rattle.align.specs.Aligns.{Frames, Aligns};
-
-// An offset of the next coarser level, at this one.
-fn doubled(m: Offset) -> Offset
-    requires { ⌜ Near maxOffset m ⌝ }
-    ensures { λ r. ⌜ r ≡ added m m ⌝ }
-{
-    Offset {
-        dx: m.dx + m.dx,
-        dy: m.dy + m.dy,
-    }
-}
 
 // Aligns the grey frames that stand at `first` and at `second` of the lent memory, one of them at its
 // beginning and one right after it. Each coarser level is written into the remainder.

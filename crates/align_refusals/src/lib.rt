@@ -11,11 +11,13 @@ use refusals::lowest;
 use refusals::row_words;
 ghost use mathlib.Core.Path.{_≡_};
 ghost use Prim.Native.Nat.{_<_, _≤_};
-ghost use Rattle.rules.specs.Refusals.{shapeRefusal, badPercentiles, levelPixels, shortMemory, pairRefusal, seriesRefusal};
+ghost use Rattle.rules.specs.Limits.{maxSide, maxHalvings};
+ghost use Rattle.rules.specs.Refusals.{shapeRefusal, badPercentiles, levelPixels, greyNeeded, wordsNeeded, shortMemory};
+ghost use Rattle.rules.specs.Refusals.{pairRefusal, seriesRefusal};
 
 // The pixels of all levels of a frame.
-pub fn level_pixels(w: usize, h: usize, s: u32) -> usize
-    requires { ⌜ (w ≤ 4096) × (h ≤ 4096) × (s ≤ 8) ⌝ }
+fn level_pixels(w: usize, h: usize, s: u32) -> usize
+    requires { ⌜ (w ≤ maxSide) × (h ≤ maxSide) × (s ≤ maxHalvings) ⌝ }
     ensures { λ r. ⌜ r ≡ levelPixels s w h ⌝ }
 {
     if s == 0 {
@@ -59,12 +61,28 @@ fn bad_percentiles(n: usize, percentiles: &[u32]) -> bool
     false
 }
 
+// The bytes of grey work memory: both frames at all levels.
+pub fn grey_memory(w: usize, h: usize, s: u32) -> usize
+    requires { ⌜ (w ≤ maxSide) × (h ≤ maxSide) × (s ≤ maxHalvings) ⌝ }
+    ensures { λ r. ⌜ r ≡ greyNeeded s w h ⌝ }
+{
+    2 * level_pixels(w, h, s)
+}
+
+// The words of word work memory: both frames' two bitmaps, and the second's two once more, slid.
+pub fn word_memory(w: usize, h: usize) -> usize
+    requires { ⌜ (w ≤ maxSide) × (h ≤ maxSide) ⌝ }
+    ensures { λ r. ⌜ r ≡ wordsNeeded w h ⌝ }
+{
+    6 * (row_words(w) * h)
+}
+
 fn short_memory(w: usize, h: usize, s: u32, grey: usize, words: usize) -> bool
-    requires { ⌜ (w ≤ 4096) × (h ≤ 4096) × (s ≤ 8) ⌝ }
+    requires { ⌜ (w ≤ maxSide) × (h ≤ maxSide) × (s ≤ maxHalvings) ⌝ }
     ensures { λ r. ⌜ r ≡ shortMemory s w h grey words ⌝ }
 {
-    let greys = 2 * level_pixels(w, h, s);
-    let bitmaps = 6 * (row_words(w) * h);
+    let greys = grey_memory(w, h, s);
+    let bitmaps = word_memory(w, h);
     (grey < greys) | (words < bitmaps)
 }
 

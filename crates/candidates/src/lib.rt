@@ -1,15 +1,27 @@
-// The nine candidates around a centre, and the choice among their counts in any order of the nine.
+// The centre that a coarser level gives, the nine candidates around a centre, and the choice among their
+// counts in any order of the nine.
 
 use rules::Offset;
 ghost use mathlib.Core.Path.{_≡_};
 ghost use Prim.Native.Nat.{_+_, _<_, _≤_};
 ghost use lib.ListN.{length};
-ghost use Rattle.rules.specs.Limits.{maxCentre};
-ghost use Rattle.rules.specs.Levels.{Arrangement, candidateAt, stepOf, Near};
+ghost use Rattle.rules.specs.Limits.{maxOffset, maxCentre};
+ghost use Rattle.rules.specs.Levels.{Arrangement, added, candidateAt, stepOf, Near};
 ghost use Rattle.candidates.specs.Leading.{countsBy, Leading};
 
 // Ward's order, by the places of the candidates in it.
 pub const WARD: [usize; 9] = [0, 1, 2, 3, 4, 5, 6, 7, 8];
+
+// An offset of the next coarser level, at this one.
+pub fn doubled(m: Offset) -> Offset
+    requires { ⌜ Near maxOffset m ⌝ }
+    ensures { λ r. ⌜ r ≡ added m m ⌝ }
+{
+    Offset {
+        dx: m.dx + m.dx,
+        dy: m.dy + m.dy,
+    }
+}
 
 // A step on an axis: -1, 0 or 1.
 fn step(i: usize) -> i32

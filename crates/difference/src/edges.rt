@@ -15,7 +15,7 @@ ghost use Rattle.words.specs.Rows.{biasWords};
 ghost use Rattle.words.specs.Moves.{Moves};
 ghost use Rattle.popcount.specs.Table.{CountsBits};
 ghost use Rattle.popcount.specs.RowCounts.{Adds};
-ghost use Rattle.difference.specs.RowDifferences.{movedDiffer, RowsIn};
+ghost use Rattle.differing.specs.RowDifferences.{movedDiffer, RowsIn};
 
 // One word near an edge of a row, where partners can lie outside and bits past w be in the way.
 fn edge_word(

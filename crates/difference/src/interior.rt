@@ -1,38 +1,14 @@
 // The interior words of a row, which are most of it: no test and no mask, and seven of them at a time.
 
+use differing::differing_word;
 use popcount::adder::seven_word_count;
 use popcount::table::word_count;
-use words::BIAS_WORDS;
 use words::moves::Move;
-use words::moves::joined_word;
 ghost use Prim.Native.Nat.{_+_, _<_, _≤_};
-ghost use Rattle.words.specs.Rows.{WordOf};
 ghost use Rattle.words.specs.Moves.{Moves};
 ghost use Rattle.popcount.specs.Table.{CountsBits};
 ghost use Rattle.popcount.specs.RowCounts.{Adds};
-ghost use Rattle.difference.specs.RowDifferences.{movedDiffer, RowsIn};
-
-// The pixels of interior word k at which the two rows differ.
-fn differing_word(
-    t1: &[u64],
-    e1: &[u64],
-    t2: &[u64],
-    e2: &[u64],
-    base: usize,
-    from: usize,
-    m: Move,
-    k: usize,
-) -> u64
-    requires moves { ⌜ Moves m ⌝ }
-    requires here { ⌜ (m .first ≤ k) × (k < m .end) ⌝ }
-    requires rows { ⌜ RowsIn (now t1) (now e1) (now t2) (now e2) base from (m .w) ⌝ }
-    ensures { λ v. ⌜ WordOf (movedDiffer (now (t1 .entry)) (now (e1 .entry)) (now (t2 .entry)) (now (e2 .entry)) base from m) k v ⌝ }
-{
-    let i = base + k;
-    let j = from + k + BIAS_WORDS - m.q;
-    let kept = e1[i] & joined_word(e2[j], e2[j - 1], m.r);
-    (t1[i] ^ joined_word(t2[j], t2[j - 1], m.r)) & kept
-}
+ghost use Rattle.differing.specs.RowDifferences.{movedDiffer, RowsIn};
 
 // One interior word. A word with no difference is left before the look-ups.
 fn interior_word(

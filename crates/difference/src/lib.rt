@@ -4,8 +4,8 @@ pub mod edges;
 pub mod interior;
 pub mod row_differences;
 
+use frame_refusals::difference_refusal;
 use popcount::table::bit_counts;
-use refusals::difference_refusal;
 use row_differences::difference_frame;
 use rules::Counted;
 ghost use mathlib.Core.Path.{_≡_};

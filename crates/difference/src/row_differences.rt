@@ -16,7 +16,7 @@ ghost use Rattle.rules.specs.Differences.{difference};
 ghost use Rattle.rules.specs.Calls.{planesOf};
 ghost use Rattle.words.specs.Moves.{Moves};
 ghost use Rattle.popcount.specs.Table.{CountsBits};
-ghost use Rattle.difference.specs.RowDifferences.{movedDiffer, lineDiffer, RowsIn, FramesIn};
+ghost use Rattle.differing.specs.RowDifferences.{movedDiffer, lineDiffer, RowsIn, FramesIn};
 
 // The row at `base` against the moved row at `from`.
 fn row_difference(

@@ -1,3 +1,2 @@
--- Laws of lists filled place by place and of bytes brought together by colour, for the core's proofs.
-pub mod FilledLaws
-pub mod ColourLaws
+-- Laws of the grey conversion, for the core's proofs.
+pub mod ConversionLaws

@@ -9,7 +9,7 @@ ghost use Rattle.rules.specs.Calls.{GreyCall};
 pub fn to_grey(w: usize, h: usize, raster: &[u8], grey: &mut [u8]) -> Written
     ensures { λ r. ⌜ GreyCall w h (now (raster .entry)) (now (grey .entry)) (now (grey .exit)) r ⌝ }
 {
-    let n = refusals::grey_refusal(w, h, raster.len(), grey.len());
+    let n = frame_refusals::grey_refusal(w, h, raster.len(), grey.len());
     if n != 0 {
         return Written::Refused(n);
     }

@@ -1,73 +1,14 @@
-// The halving's core. A block of 32 results goes through one small local array in loops without a
-// branch, which the compiler takes many bytes at a time.
+// The halving's core: two rows block by block, what is left one by one, and a frame row by row.
 
-ghost use mathlib.Core.Path.{_≡_};
-ghost use Prim.Native.Nat.{_+_, _*_, _-_, _/_, _≤_, min, max};
+use half_block::second_smallest;
+use half_block::seconds;
+use half_block::store_block;
+ghost use Prim.Native.Nat.{_+_, _*_, _-_, _/_, _≤_};
 ghost use lib.ListN.{length};
 ghost use Rattle.rules.specs.Frames.{frameOf};
-ghost use Rattle.rules.specs.Greys.{secondSmallest, halved};
+ghost use Rattle.rules.specs.Greys.{halved};
 ghost use Rattle.rules.specs.Buffers.{RowAt, FrameAt};
-ghost use Rattle.halve.specs.HalfPlaces.{secondAt, evenAt, halfAt, RowFits};
-ghost use Rattle.grey.specs.GreyPlaces.{Filled};
-
-fn lower(a: u8, b: u8) -> u8
-    ensures { λ r. ⌜ r ≡ min a b ⌝ }
-{
-    if a < b { a } else { b }
-}
-
-fn upper(a: u8, b: u8) -> u8
-    ensures { λ r. ⌜ r ≡ max a b ⌝ }
-{
-    if a < b { b } else { a }
-}
-
-// The second smallest, given the lower and the higher of each of two pairs.
-fn second(low1: u8, low2: u8, high1: u8, high2: u8) -> u8
-    ensures { λ r. ⌜ r ≡ min (max low1 low2) (min high1 high2) ⌝ }
-{
-    lower(upper(low1, low2), lower(high1, high2))
-}
-
-pub fn second_smallest(a: u8, b: u8, c: u8, d: u8) -> u8
-    ensures { λ r. ⌜ r ≡ secondSmallest a b c d ⌝ }
-{
-    second(lower(a, c), lower(b, d), upper(a, c), upper(b, d))
-}
-
-// The second smallest of each of 64 neighbouring columns of two rows and the column right of it,
-// unwanted ones too: a step of one keeps the loop plain, and `store_block` picks. The last column's
-// neighbour is one byte more than 32 results need.
-pub fn seconds(src: &[u8], top: usize, bottom: usize) -> [u8; 64]
-    requires { ⌜ top + 65 ≤ length (now src) ⌝ }
-    requires { ⌜ bottom + 65 ≤ length (now src) ⌝ }
-    ensures { λ r. ⌜ Filled (secondAt (now (src .entry)) top bottom) 64 r ⌝ }
-{
-    let mut all = [0u8; 64];
-    let mut k: usize = 0;
-    while k < 64 {
-        all[k] = second_smallest(
-            src[top + k],
-            src[top + k + 1],
-            src[bottom + k],
-            src[bottom + k + 1],
-        );
-        k += 1;
-    }
-    all
-}
-
-// A block's 32 results, every other one of `all`, written from place `to` on.
-pub fn store_block(all: &[u8; 64], dst: &mut [u8], to: usize)
-    requires { ⌜ to + 32 ≤ length (now dst) ⌝ }
-    ensures { λ _. ⌜ RowAt to (evenAt (now (all .entry))) (now (dst .entry)) 32 (now (dst .exit)) ⌝ }
-{
-    let mut k: usize = 0;
-    while k < 32 {
-        dst[to + k] = all[2 * k];
-        k += 1;
-    }
-}
+ghost use Rattle.half_block.specs.HalfPlaces.{halfAt, RowFits};
 
 // How many blocks of n results can be taken, with `bytes` bytes from the lower row's begin to the
 // source's end: all whole ones, unless the last one's byte more is missing.

@@ -9,7 +9,7 @@ ghost use Rattle.rules.specs.Calls.{HalveCall};
 pub fn halve(w: usize, h: usize, grey: &[u8], out: &mut [u8]) -> Written
     ensures { λ r. ⌜ HalveCall w h (now (grey .entry)) (now (out .entry)) (now (out .exit)) r ⌝ }
 {
-    let n = refusals::halve_refusal(w, h, grey.len(), out.len());
+    let n = frame_refusals::halve_refusal(w, h, grey.len(), out.len());
     if n != 0 {
         return Written::Refused(n);
     }

@@ -3,10 +3,10 @@
 pub mod exclusion;
 
 use exclusion::excluded;
+use histogram::histogram;
 use pack::packed_rows::pack_row;
 use refusals::row_words;
 use rules::Setup;
-use threshold::counts::histogram;
 use threshold::walk::threshold_of;
 ghost use mathlib.Core.Path.{_≡_};
 ghost use Prim.Native.Nat.{_+_, _*_, _≤_};

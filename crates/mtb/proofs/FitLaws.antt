@@ -10,8 +10,9 @@ use Rattle.rules.specs.Refusals.{_when_, badSize, wrongLength, rasterLength}
 use Rattle.rules.proofs.RefusalLaws.{size-ok, orElse-no}
 use Rattle.rules.proofs.OffsetLaws.{abs-add}
 use Rattle.ppm_read.specs.declared.Size.{Size}
-use Rattle.ppm_read.specs.declared.Header.{Header}
-use Rattle.ppm_read.specs.P6.{headerOf, headerRefusal, p6Refusal, sizeIn}
+use Rattle.p6_header.specs.declared.Header.{Header}
+use Rattle.p6_header.specs.P6Header.{headerOf}
+use Rattle.ppm_read.specs.P6.{headerRefusal, p6Refusal, sizeIn}
 use Rattle.area.specs.declared.Area.{Area}
 use Rattle.area.specs.Common.{dxOf, dyOf, larger, smaller, lowSide, highSide, nothingCommon, areaRefusal, commonArea}
 use Rattle.area.specs.Sides.{offsetsRefusal}

@@ -8,10 +8,10 @@ ghost use Rattle.rules.specs.Calls.{toleranceSetup, PairCall, toleranceSettings
 ghost use Rattle.rules.specs.Refusals.{shapeRefusal, greyNeeded, wordsNeeded};
 ghost use Rattle.mtb.specs.Values.{valueAfter, offset};
 use crate::numbers::refusal_in;
-use align_refusals::level_pixels;
+use align_refusals::grey_memory;
 use align_refusals::shape_refusal;
+use align_refusals::word_memory;
 use pair::pair;
-use refusals::row_words;
 use rules::Paired;
 use series::series;
 
@@ -105,7 +105,7 @@ pub extern "C" fn mtb_grey_needed(w: u32, h: u32, s: u32) -> usize
     if shape_refusal(w as usize, h as usize, s) != 0 {
         return 0;
     }
-    2 * level_pixels(w as usize, h as usize, s)
+    grey_memory(w as usize, h as usize, s)
 }
 
 // The 64-bit words of word work memory; 0 when the sizes or s are refused.
@@ -116,5 +116,5 @@ pub extern "C" fn mtb_words_needed(w: u32, h: u32, s: u32) -> usize
     if shape_refusal(w as usize, h as usize, s) != 0 {
         return 0;
     }
-    6 * (row_words(w as usize) * h as usize)
+    word_memory(w as usize, h as usize)
 }

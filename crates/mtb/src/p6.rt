@@ -2,7 +2,8 @@
 
 ghost use mathlib.Core.Path.{_≡_};
 ghost use lib.ListN.{length};
-ghost use Rattle.ppm_read.specs.P6.{headerOf, p6Refusal, sizeIn, startIn, rasterOf};
+ghost use Rattle.p6_header.specs.P6Header.{headerOf, startIn};
+ghost use Rattle.ppm_read.specs.P6.{p6Refusal, sizeIn, rasterOf};
 ghost use Rattle.ppm_write.specs.P6Writes.{fileWritten, WriteCall};
 ghost use Rattle.mtb.specs.Values.{valueAfter};
 use ppm_read::SizeRead;

@@ -19,10 +19,10 @@ use Rattle.words.specs.Rows.{WordOf, rowBit, bias, biasOf}
 use Rattle.words.proofs.MoveLaws.{gate-lt, back-at}
 use Rattle.words.specs.Moves.{movedBit}
 use Rattle.popcount.specs.RowCounts.{Adds}
-use Rattle.difference.specs.RowDifferences.{disagree, rowDiffer, lineDiffer}
+use Rattle.differing.specs.RowDifferences.{disagree, rowDiffer, lineDiffer}
 use Rattle.overlap.specs.WordRuns.{runBit, runDiffer, Clean}
 use Rattle.popcount.proofs.RowLaws.{sum-stop, adds-more, row-words-le}
-use Rattle.difference.proofs.DifferLaws.{disagree-lt, disagree-right, mixed-bit, line-before, line-past, line-paired, frame-whole}
+use Rattle.differing.proofs.DifferLaws.{disagree-lt, disagree-right, mixed-bit, line-before, line-past, line-paired, frame-whole}
 
 -- ---- the bits of a run
 

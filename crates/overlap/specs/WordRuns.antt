@@ -5,7 +5,7 @@ use Prim.Native.Nat.{ℕ, _+_, _*_, _/_, _%_, _≤_, _<_}
 use lib.ListN.{length, getD}
 use Rattle.rules.specs.Limits.{maxSide, wordBits}
 use Rattle.rules.specs.Bitmaps.{bit, rowWords}
-use Rattle.difference.specs.RowDifferences.{disagree}
+use Rattle.differing.specs.RowDifferences.{disagree}
 
 -- bit p of the words from place `from` on
 unfoldable pub runBit : List ℕ → ℕ → ℕ → ℕ

@@ -26,7 +26,7 @@ pub fn bitmaps(
         (now (thresholds .entry)) (now (thresholds .exit)) (now (exclusions .entry)) (now (exclusions .exit)) r
         ⌝ }
 {
-    let n = refusals::bitmaps_refusal(
+    let n = frame_refusals::bitmaps_refusal(
         w,
         h,
         tolerance,

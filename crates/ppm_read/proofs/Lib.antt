@@ -1,3 +1,2 @@
--- Laws of P6 files' headers, field by field.
-pub mod FieldLaws
-pub mod HeaderLaws
+-- Laws of the answers of a refused file.
+pub mod ReadAnswerLaws

@@ -17,18 +17,6 @@ pub enum SizeRead {
     Refused(u32),
 }
 
-// What a file's first bytes say: the size, and where the raster begins.
-pub enum Header {
-    Good { w: u32, h: u32, start: usize },
-    Bad,
-}
-
-// The bytes that every P6 file begins with.
-pub const MAGIC: [u8; 2] = *b"P6";
-
-// The largest value of a sample, the only one that is read and written.
-pub const LARGEST: u32 = 255;
-
 // The raster of a P6 file, as the part of the file's bytes that it is; empty when refused.
 pub fn p6_raster(file: &[u8]) -> &[u8]
     ensures { λ r. ⌜ now r ≡ rasterOf (now (file .entry)) ⌝ }

@@ -11,12 +11,13 @@ use borrow.Author.Tests.{eq-eqb}
 use Rattle.text.specs.Digits.{isDigit, digits}
 use Rattle.text.proofs.ReadLaws.{leading-none}
 use Rattle.rules.specs.Refusals.{badSize, rasterLength}
-use Rattle.ppm_read.specs.declared.Header.{Header}
-use Rattle.ppm_read.specs.P6.{magic, isMagic, isWhite, after, ending, fields, headerOf, headerRefusal, p6Refusal, sizeIn, startIn}
+use Rattle.p6_header.specs.declared.Header.{Header}
+use Rattle.p6_header.specs.P6Header.{magic, isMagic, isWhite, after, ending, fields, headerOf, startIn}
+use Rattle.ppm_read.specs.P6.{headerRefusal, p6Refusal, sizeIn}
 use Rattle.ppm_write.specs.P6Writes.{header, p6File, writeOut}
 use Rattle.ppm_write.specs.RoundTrip.{RoundTrip}
-use Rattle.ppm_read.proofs.FieldLaws.{field-next}
-use Rattle.ppm_read.proofs.HeaderLaws.{magic-begins}
+use Rattle.p6_header.proofs.FieldLaws.{field-next}
+use Rattle.p6_header.proofs.HeaderLaws.{magic-begins}
 use Rattle.ppm_write.proofs.P6WriteLaws.{WriteOk, write-ok}
 
 written-is : (w h : ℕ) (raster : List ℕ)

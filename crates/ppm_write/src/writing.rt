@@ -1,7 +1,7 @@
 // P6 headers written: their length, and their bytes put into a lent buffer.
 
-use ppm_read::LARGEST;
-use ppm_read::MAGIC;
+use p6_header::LARGEST;
+use p6_header::MAGIC;
 use refusals::Faults;
 use refusals::NONE;
 use refusals::bad_size;

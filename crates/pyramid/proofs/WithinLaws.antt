@@ -9,9 +9,9 @@ use Rattle.rules.specs.Frames.{frameOf}
 use Rattle.rules.specs.Greys.{halved}
 use Rattle.rules.specs.Buffers.{RowAt, FrameAt}
 use Rattle.rules.proofs.FrameLaws.{row-ext}
-use Rattle.halve.specs.HalfPlaces.{secondAt, evenAt, halfAt, RowFits}
-use Rattle.grey.specs.GreyPlaces.{Filled}
-use Rattle.halve.proofs.HalfLaws.{even-half, block-more, rest-more, half-more, rows-fit}
+use Rattle.half_block.specs.HalfPlaces.{secondAt, evenAt, halfAt, RowFits}
+use Rattle.rules.specs.Buffers.{Filled}
+use Rattle.half_block.proofs.HalfLaws.{even-half, block-more, rest-more, half-more, rows-fit}
 
 -- Lists that agree under a place have the same results of rows that end there.
 pub half-under : (before after : List ℕ) (to top bottom k : ℕ)

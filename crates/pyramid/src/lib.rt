@@ -1,13 +1,15 @@
 // Halving of a grey frame inside one lent memory, level under level: a memory can't be lent in two
 // parts at once, so the frame and its half are places of one slice.
 
-use halve::halving;
+use half_block::second_smallest;
+use half_block::seconds;
+use half_block::store_block;
 ghost use Prim.Native.Nat.{_+_, _*_, _/_, _≤_};
 ghost use lib.ListN.{length, drop};
 ghost use Rattle.rules.specs.Frames.{frameOf};
 ghost use Rattle.rules.specs.Greys.{halved};
 ghost use Rattle.rules.specs.Buffers.{RowAt, FrameAt};
-ghost use Rattle.halve.specs.HalfPlaces.{halfAt, RowFits};
+ghost use Rattle.half_block.specs.HalfPlaces.{halfAt, RowFits};
 
 // The first results of two rows, as many whole blocks as n holds. Both rows end at or before `to`,
 // so no result overwrites them, and the byte more that a block reads is there.
@@ -19,8 +21,8 @@ fn blocks_within(grey: &mut [u8], top: usize, bottom: usize, to: usize, n: usize
     let mut b: usize = 0;
     while b < blocks {
         let k = 32 * b;
-        let all = halving::seconds(grey, top + 2 * k, bottom + 2 * k);
-        halving::store_block(&all, grey, to + k);
+        let all = seconds(grey, top + 2 * k, bottom + 2 * k);
+        store_block(&all, grey, to + k);
         b += 1;
     }
 }
@@ -34,7 +36,7 @@ fn rest_within(grey: &mut [u8], top: usize, bottom: usize, to: usize, n: usize)
     while k < n {
         let left = 2 * k;
         let right = left + 1;
-        grey[to + k] = halving::second_smallest(
+        grey[to + k] = second_smallest(
             grey[top + left],
             grey[top + right],
             grey[bottom + left],

@@ -1,7 +1,3 @@
--- Laws of the settings line and of the output, for the functions' proofs; how much of its input `bracket` has to read.
-pub mod LineLaws
+-- Laws of the output, for the functions' proofs; how much of its files `bracket` has to read.
 pub mod ReadLimits
-pub mod TextLaws
-pub mod WriteLaws
 pub mod OutputLaws
-pub mod MagnitudeLaws

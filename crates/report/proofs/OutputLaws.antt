@@ -19,13 +19,15 @@ use Rattle.rules.proofs.AlignmentLaws.{pair-ok}
 use Rattle.align.proofs.AlignLaws.{counts-length}
 use Rattle.ppm_read.specs.declared.Size.{Size}
 use Rattle.ppm_read.specs.declared.SizeRead.{SizeRead}
-use Rattle.ppm_read.specs.P6.{headerOf, sizeIn, p6Refusal, rasterOf, sizeRead, sizeAnswer}
-use Rattle.report.specs.declared.Settings.{Settings}
-use Rattle.report.specs.SettingsLine.{settingsOf}
-use Rattle.report.specs.Output.{settingsText, refusedText, offsetText, levelsText, alignedText, countsLent, greyLent, wordsLent}
+use Rattle.p6_header.specs.P6Header.{headerOf}
+use Rattle.ppm_read.specs.P6.{sizeIn, p6Refusal, rasterOf, sizeRead, sizeAnswer}
+use Rattle.settings_line.specs.declared.Settings.{Settings}
+use Rattle.settings_line.specs.SettingsLine.{settingsOf}
+use Rattle.output_lines.specs.Lines.{settingsText, refusedText, offsetText, levelsText, alignedText}
+use Rattle.report.specs.Output.{countsLent, greyLent, wordsLent}
 use Rattle.report.specs.Output.{secondRaster, wardResult, bracketRefusal, answerText, filesText, asRead, outputBy, bracketOutput}
 use Rattle.report.specs.PairTexts.{pairText, rasterOfSize}
-use Rattle.report.proofs.TextLaws.{levels-enough}
+use Rattle.output_lines.proofs.TextLaws.{levels-enough}
 
 -- A call that refuses: its number is printed.
 pair-refused : (r n : ℕ) (m : Offset) (text : List ℕ) → paired r m ≡ Paired.Refused n → answerText r text ≡ refusedText n

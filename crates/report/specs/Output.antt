@@ -1,56 +1,19 @@
--- What the program `bracket` prints, byte for byte.
+-- What the program `bracket` prints: which lines, from its input and its two files.
 use mathlib.Core.Bool.{_&&_, cond}
-use mathlib.Core.List.{List, [], _∷_, _++_}
+use mathlib.Core.List.{List, []}
 use Prim.Native.Nat.{ℕ, zero, suc}
 use lib.Dec.{eqb, leb}
-use lib.IntN.{ℤ, pos, negsuc}
-use lib.ListN.{length, take, drop}
-use Rattle.text.specs.Digits.{digits}
+use lib.ListN.{length}
 use Rattle.rules.specs.Levels.{wardOrder, Aligned}
 use Rattle.rules.specs.Refusals.{_orElse_, countsLength, toleranceRefusal, pairRefusal}
 use Rattle.rules.specs.Limits.{maxHalvings}
 use Rattle.rules.specs.Calls.{toleranceSetup, pairResult}
 use Rattle.ppm_read.specs.declared.Size.{Size}
-use Rattle.ppm_read.specs.P6.{headerOf, sizeIn, p6Refusal, rasterOf}
-use Rattle.report.specs.declared.Settings.{Settings}
-use Rattle.report.specs.SettingsLine.{settingsOf}
-
--- "Every line ends with a byte 10."
-abbrev pub endLine : List ℕ
-endLine = 10 ∷ []
-
--- "A line that isn't three numbers … prints only `settings`"
-abbrev pub settingsText : List ℕ
-settingsText = (115 ∷ 101 ∷ 116 ∷ 116 ∷ 105 ∷ 110 ∷ 103 ∷ 115 ∷ []) ++ endLine
-
--- "A refusal prints only `refused`, a 32 and its number"
-abbrev pub refusedText : ℕ → List ℕ
-refusedText n = (114 ∷ 101 ∷ 102 ∷ 117 ∷ 115 ∷ 101 ∷ 100 ∷ 32 ∷ []) ++ digits n ++ endLine
-
--- a signed number, with `-` before it when negative
-unfoldable pub signed : ℤ → List ℕ
-signed (pos n) = digits n
-signed (negsuc n) = 45 ∷ digits (suc n)
-
--- "offset dx dy"
-abbrev pub offsetText : ℤ → ℤ → List ℕ
-offsetText dx dy = (111 ∷ 102 ∷ 102 ∷ 115 ∷ 101 ∷ 116 ∷ 32 ∷ []) ++ signed dx ++ (32 ∷ []) ++ signed dy ++ endLine
-
--- counts, each after a 32
-unfoldable pub countsText : List ℕ → List ℕ
-countsText [] = []
-countsText (c ∷ l) = (32 ∷ []) ++ digits c ++ countsText l
-
--- "a line a level, coarsest first, the number of halvings before the colon, the nine counts after it"
-abbrev pub levelText : ℕ → List ℕ → List ℕ
-levelText halvings counts = digits halvings ++ (58 ∷ []) ++ countsText (take 9 counts) ++ endLine
-
-unfoldable pub levelsText : ℕ → List ℕ → List ℕ
-levelsText zero counts = levelText zero counts
-levelsText (suc s) counts = levelText (suc s) counts ++ levelsText s (drop 9 counts)
-
-abbrev pub alignedText : ℕ → Aligned → List ℕ
-alignedText s r = offsetText (r .offset .dx) (r .offset .dy) ++ levelsText s (r .counts)
+use Rattle.p6_header.specs.P6Header.{headerOf}
+use Rattle.ppm_read.specs.P6.{sizeIn, p6Refusal, rasterOf}
+use Rattle.settings_line.specs.declared.Settings.{Settings}
+use Rattle.settings_line.specs.SettingsLine.{settingsOf}
+use Rattle.output_lines.specs.Lines.{settingsText, refusedText, alignedText}
 
 -- "65536 bytes at most each; a missing or longer file counts as empty."
 abbrev pub maxFile : ℕ

@@ -7,7 +7,8 @@ use lib.ListN.{length}
 use Rattle.rules.specs.Refusals.{toleranceRefusal, pairRefusal}
 use Rattle.ppm_read.specs.declared.Size.{Size}
 use Rattle.ppm_read.specs.P6.{rasterOf}
-use Rattle.report.specs.Output.{alignedText, countsLent, greyLent, wordsLent, answerText, wardResult}
+use Rattle.output_lines.specs.Lines.{alignedText}
+use Rattle.report.specs.Output.{countsLent, greyLent, wordsLent, answerText, wardResult}
 
 unfoldable pub pairText : Size → ℕ → ℕ → ℕ → List ℕ → List ℕ → List ℕ
 pairText size s tolerance percentile first second =

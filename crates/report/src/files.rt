@@ -4,8 +4,8 @@ use crate::GREY_LENT;
 use crate::MAX_FILE;
 use crate::OUTPUT_LENT;
 use crate::WORDS_LENT;
-use crate::writer::put_aligned;
-use crate::writer::put_refused;
+use output_lines::put_aligned;
+use output_lines::put_refused;
 use ppm_read::Size;
 use ppm_read::SizeRead;
 use ppm_read::p6_raster;
@@ -14,7 +14,7 @@ use rules::Paired;
 ghost use mathlib.Core.Path.{_≡_};
 ghost use Rattle.report.specs.Output.{asRead, filesText};
 ghost use Rattle.report.specs.PairTexts.{pairText, rasterOfSize};
-ghost use Rattle.report.specs.Writes.{Wrote};
+ghost use Rattle.output_lines.specs.Writes.{Wrote};
 
 // Counts for the most levels that there can be.
 const MAX_COUNTS: usize = 81;

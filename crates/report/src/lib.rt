@@ -1,12 +1,11 @@
 // What the program `bracket` prints, from what it has read: the offered call.
 
 mod files;
-mod parser;
-mod writer;
 
 use files::as_read;
 use files::put_files;
-use parser::settings_of;
+use settings_line::Settings;
+use settings_line::settings_of;
 ghost use mathlib.Core.Path.{_≡_};
 ghost use lib.ListN.{length};
 ghost use Rattle.rules.specs.Frames.{writtenOver};
@@ -21,16 +20,6 @@ pub const GREY_LENT: usize = 65536;
 pub const WORDS_LENT: usize = 8192;
 
 pub const OUTPUT_LENT: usize = 1024;
-
-// What a settings line says.
-pub enum Settings {
-    Given {
-        s: u32,
-        tolerance: u32,
-        percentile: u32,
-    },
-    Bad,
-}
 
 // All that `bracket` prints, into the beginning of `out`; the answer is the number of bytes.
 pub fn report(

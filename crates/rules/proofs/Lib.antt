@@ -1,6 +1,7 @@
 -- Laws of the definitions in specs/, for the proofs of the crates above.
 pub mod ExampleLaws
 pub mod SumLaws
+pub mod FilledLaws
 pub mod FrameLaws
 pub mod RefusalLaws
 pub mod GreyLaws

@@ -1,4 +1,4 @@
--- What a loop that writes into a lent buffer keeps: what it has written, and that nothing else has changed.
+-- What a loop that writes into a buffer keeps: what it has written and, of a lent one, that nothing else has changed.
 use mathlib.Core.Path.{_≡_}
 use mathlib.Core.List.{List}
 use Prim.Native.Nat.{ℕ, _+_, _*_, _≤_, _<_}
@@ -18,3 +18,7 @@ pub record FrameAt (to w : ℕ) (f : Frame) (before : List ℕ) (y : ℕ) (after
   pub under : (m : ℕ) → m < to → getD after m 0 ≡ getD before m 0
   pub done : (x z : ℕ) → x < w → z < y → getD after (to + (z * w + x)) 0 ≡ f x z
   pub over : (m : ℕ) → to + y * w ≤ m → getD after m 0 ≡ getD before m 0
+
+-- What a loop that fills a local array keeps: the first n numbers are f's.
+pub record Filled (f : ℕ → ℕ) (n : ℕ) (l : List ℕ) : Type 0 where
+  pub done : (k : ℕ) → k < n → getD l k 0 ≡ f k

@@ -1,7 +1,7 @@
 // The offered shift of a packed bitmap.
 
 ghost use Rattle.rules.specs.Calls.{ShiftCall};
-use refusals::shift_refusal;
+use frame_refusals::shift_refusal;
 use rules::Written;
 
 pub mod moved_rows;

@@ -1,11 +1,10 @@
 // The offered call for the threshold of a grey frame.
 
-pub mod counts; // counts.rt: how often each grey value stands in a frame
-pub mod walk; // walk.rt: the walk over the counts
+pub mod walk;
 
 ghost use mathlib.Core.Path.{_≡_};
 ghost use Rattle.rules.specs.Calls.{thresholdAnswer};
-use counts::histogram;
+use histogram::histogram;
 use rules::Thresholded;
 use walk::threshold_of;
 
@@ -13,7 +12,7 @@ use walk::threshold_of;
 pub fn threshold(w: usize, h: usize, percentile: u32, grey: &[u8]) -> Thresholded
     ensures { λ r. ⌜ r ≡ thresholdAnswer w h percentile (now (grey .entry)) ⌝ }
 {
-    let n = refusals::threshold_refusal(w, h, percentile, grey.len());
+    let n = frame_refusals::threshold_refusal(w, h, percentile, grey.len());
     if n != 0 {
         return Thresholded::Refused(n);
     }

@@ -3,7 +3,8 @@
 ghost use mathlib.Core.Path.{_≡_};
 ghost use mathlib.Core.List.{List};
 ghost use Prim.Native.Nat.{ℕ, _*_, _≤_};
-ghost use Rattle.threshold.specs.Flat.{maxPixels, total, CountsOf, thresholdIn, firstReaching};
+ghost use Rattle.histogram.specs.Counts.{maxPixels, total, CountsOf};
+ghost use Rattle.threshold.specs.Flat.{thresholdIn, firstReaching};
 
 // The first value whose running count, a hundred times, reaches the goal.
 fn first_reaching(counts: &[u32; 256], goal: u64) -> u8

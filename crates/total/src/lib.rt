@@ -2,8 +2,8 @@
 
 pub mod row_totals;
 
+use frame_refusals::total_refusal;
 use popcount::table::bit_counts;
-use refusals::total_refusal;
 use row_totals::total_frame;
 use rules::Counted;
 ghost use mathlib.Core.Path.{_≡_};

@@ -13,7 +13,7 @@ use borrow.Fn.PlainCycle.{Measures, is, falls, and}
 use Rattle.align.proofs.align_frames.Reads as align-frames
 use Rattle.align.proofs.align_frames.Kinds as align-frames-kinds
 use Rattle.align.proofs.+align_frames.Lts-align_frames as align-frames-lts
-use Rattle.align.proofs.doubled.Reads as doubled-reads
+use Rattle.candidates.proofs.doubled.Reads as doubled-reads
 use Rattle.level.proofs.align_level.Reads as align-level-reads
 use Rattle.pyramid.proofs.halve_within.Reads as halve-within-reads
 use Rattle.align.proofs.+align_frames.{statement}

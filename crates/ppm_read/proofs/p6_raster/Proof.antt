@@ -1,7 +1,8 @@
 -- A refused file has an empty part; the raster of any other one begins in the file or at its end, and is all the rest.
 use mathlib.Core.Path.{sym, _∙_}
-use Rattle.ppm_read.proofs.FieldLaws.{rest-whole}
-use Rattle.ppm_read.proofs.HeaderLaws.{start-within, part-refused}
+use Rattle.p6_header.proofs.FieldLaws.{rest-whole}
+use Rattle.p6_header.proofs.HeaderLaws.{start-within}
+use Rattle.ppm_read.proofs.ReadAnswerLaws.{part-refused}
 use native.Mathlib.Omega.{arith}
 use borrow.Author.Needs.{needs}
 use Rattle.ppm_read.proofs.p6_raster.Statement.{statement}

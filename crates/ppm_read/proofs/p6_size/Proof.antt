@@ -1,6 +1,6 @@
 -- A refused file answers its number, any other one its size.
 use mathlib.Core.Path.{sym, _∙_}
-use Rattle.ppm_read.proofs.HeaderLaws.{read-refused}
+use Rattle.ppm_read.proofs.ReadAnswerLaws.{read-refused}
 use borrow.Author.Needs.{needs}
 use Rattle.ppm_read.proofs.p6_size.Statement.{statement}
 use Rattle.ppm_read.proofs.p6_size.Tie as tie

@@ -5,7 +5,7 @@ use native.Mathlib.Omega.{arith}
 use borrow.Author.Needs.{needs}
 use Rattle.rules.specs.Buffers.{RowAt}
 use Rattle.rules.proofs.FrameLaws.{row-none}
-use Rattle.halve.specs.HalfPlaces.{halfAt}
+use Rattle.half_block.specs.HalfPlaces.{halfAt}
 use Rattle.pyramid.proofs.WithinLaws.{block-within}
 use Rattle.pyramid.proofs.blocks_within.Statement.{statement}
 use Rattle.pyramid.proofs.blocks_within.Tie as tie

@@ -8,7 +8,7 @@ use Rattle.rules.specs.Frames.{frameOf}
 use Rattle.rules.specs.Greys.{halved}
 use Rattle.rules.specs.Buffers.{FrameAt}
 use Rattle.rules.proofs.FrameLaws.{frame-none, row-fits}
-use Rattle.halve.proofs.HalfLaws.{rows-fit}
+use Rattle.half_block.proofs.HalfLaws.{rows-fit}
 use Rattle.pyramid.proofs.WithinLaws.{half-within}
 use Rattle.pyramid.proofs.halve_within.Statement.{statement}
 use Rattle.pyramid.proofs.halve_within.Tie as tie

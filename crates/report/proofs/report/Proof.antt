@@ -2,7 +2,7 @@
 use mathlib.Core.Path.{sym, _∙_}
 use borrow.Author.Needs.{needs}
 use Rattle.report.proofs.OutputLaws.{bad-line, good-line}
-use Rattle.report.proofs.WriteLaws.{wrote-one, wrote-all}
+use Rattle.output_lines.proofs.WriteLaws.{wrote-one, wrote-all}
 use Rattle.report.proofs.report.Statement.{statement}
 use Rattle.report.proofs.report.Tie as tie
 

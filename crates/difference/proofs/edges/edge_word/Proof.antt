@@ -5,8 +5,8 @@ use lib.Bits.{bitAnd}
 use borrow.Author.Needs.{needs}
 use Rattle.popcount.proofs.RowLaws.{row-words-le}
 use Rattle.words.proofs.JoinLaws.{moved-word}
-use Rattle.difference.proofs.KeptLaws.{kept-word}
-use Rattle.difference.proofs.DifferLaws.{none-adds, differ-adds}
+use Rattle.differing.proofs.KeptLaws.{kept-word}
+use Rattle.differing.proofs.DifferLaws.{none-adds, differ-adds}
 use Rattle.difference.proofs.edges.edge_word.Statement.{statement}
 use Rattle.difference.proofs.edges.edge_word.Tie as tie
 

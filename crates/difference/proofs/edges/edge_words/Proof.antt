@@ -4,9 +4,9 @@ use Prim.Native.Nat.{ℕ, _+_, _-_, _≤_}
 use native.Mathlib.Omega.{arith}
 use borrow.Author.Needs.{needs}
 use Rattle.popcount.specs.RowCounts.{Adds}
-use Rattle.difference.specs.RowDifferences.{movedDiffer}
+use Rattle.differing.specs.RowDifferences.{movedDiffer}
 use Rattle.popcount.proofs.RowLaws.{adds-none, adds-more, adds-next-le, row-words-le}
-use Rattle.difference.proofs.DifferLaws.{movedDiffer-lt}
+use Rattle.differing.proofs.DifferLaws.{movedDiffer-lt}
 use Rattle.difference.proofs.edges.edge_words.Statement.{statement}
 use Rattle.difference.proofs.edges.edge_words.Tie as tie
 

@@ -6,8 +6,8 @@ use lib.Bits.{bitAnd}
 use borrow.Author.Needs.{needs}
 use Rattle.words.proofs.MoveLaws.{row-whole}
 use Rattle.words.proofs.JoinLaws.{first-moved, full-le}
-use Rattle.difference.proofs.KeptLaws.{kept-word}
-use Rattle.difference.proofs.DifferLaws.{differ-adds}
+use Rattle.differing.proofs.KeptLaws.{kept-word}
+use Rattle.differing.proofs.DifferLaws.{differ-adds}
 use Rattle.difference.proofs.edges.first_word.Statement.{statement}
 use Rattle.difference.proofs.edges.first_word.Tie as tie
 

@@ -2,7 +2,7 @@
 use native.Mathlib.Omega.{arith}
 use borrow.Author.Needs.{needs}
 use Rattle.popcount.proofs.RowLaws.{row-words-le, row-words-all}
-use Rattle.difference.proofs.DifferLaws.{last-adds}
+use Rattle.differing.proofs.DifferLaws.{last-adds}
 use Rattle.difference.proofs.edges.last_word.Statement.{statement}
 use Rattle.difference.proofs.edges.last_word.Tie as tie
 

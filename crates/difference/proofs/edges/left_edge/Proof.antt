@@ -4,7 +4,7 @@ use Prim.Native.Nat.{_+_, _*_, _≤_}
 use native.Mathlib.Omega.{arith}
 use borrow.Author.Needs.{needs}
 use borrow.Author.Tests.{eqb-true, leb-true}
-use Rattle.difference.specs.RowDifferences.{movedDiffer}
+use Rattle.differing.specs.RowDifferences.{movedDiffer}
 use Rattle.popcount.proofs.RowLaws.{adds-none}
 use Rattle.difference.proofs.edges.left_edge.Statement.{statement}
 use Rattle.difference.proofs.edges.left_edge.Tie as tie

@@ -2,9 +2,9 @@
 use Prim.Native.Nat.{ℕ}
 use native.Mathlib.Omega.{arith}
 use borrow.Author.Needs.{needs}
-use Rattle.difference.specs.RowDifferences.{movedDiffer}
+use Rattle.differing.specs.RowDifferences.{movedDiffer}
 use Rattle.popcount.proofs.RowLaws.{adds-next-le, row-words-le}
-use Rattle.difference.proofs.DifferLaws.{movedDiffer-lt}
+use Rattle.differing.proofs.DifferLaws.{movedDiffer-lt}
 use Rattle.difference.proofs.interior.interior.Statement.{statement}
 use Rattle.difference.proofs.interior.interior.Tie as tie
 

@@ -2,7 +2,7 @@
 use Prim.Native.Nat.{ℕ, _+_, _≤_, _<_}
 use native.Mathlib.Omega.{arith}
 use Rattle.words.specs.Moves.{Moves}
-use Rattle.difference.specs.RowDifferences.{RowsIn, movedDiffer}
+use Rattle.differing.specs.RowDifferences.{RowsIn, movedDiffer}
 use Rattle.popcount.proofs.RowLaws.{row-words-le, seven-adds}
 use Rattle.difference.proofs.interior.interior_block.Statement.{statement}
 use Rattle.difference.proofs.interior.interior_block.Tie as tie

@@ -1,7 +1,7 @@
 -- The word of differences adds its bits; without one it adds nothing.
 use Prim.Native.Nat.{ℕ}
 use borrow.Author.Needs.{needs}
-use Rattle.difference.specs.RowDifferences.{movedDiffer}
+use Rattle.differing.specs.RowDifferences.{movedDiffer}
 use Rattle.popcount.proofs.RowLaws.{word-none, word-adds}
 use Rattle.difference.proofs.interior.interior_word.Statement.{statement}
 use Rattle.difference.proofs.interior.interior_word.Tie as tie

@@ -8,9 +8,9 @@ use Rattle.rules.specs.Sums.{sum}
 use Rattle.rules.proofs.SumLaws.{sum-none}
 use Rattle.words.specs.Rows.{biasOf}
 use Rattle.words.proofs.MoveLaws.{bias-lt}
-use Rattle.difference.specs.RowDifferences.{lineDiffer}
+use Rattle.differing.specs.RowDifferences.{lineDiffer}
 use Rattle.popcount.proofs.RowLaws.{rows-le, rows-more}
-use Rattle.difference.proofs.DifferLaws.{line-le, frame-whole}
+use Rattle.differing.proofs.DifferLaws.{line-le, frame-whole}
 use Rattle.difference.proofs.row_differences.difference_frame.Statement.{statement}
 use Rattle.difference.proofs.row_differences.difference_frame.Tie as tie
 

@@ -3,8 +3,8 @@ use mathlib.Core.Path.{sym, _∙_}
 use Prim.Native.Nat.{ℕ, _+_, _*_, _-_, _<_}
 use native.Mathlib.Omega.{arith}
 use borrow.Author.Needs.{needs}
-use Rattle.difference.specs.RowDifferences.{RowsIn}
-use Rattle.difference.proofs.DifferLaws.{rows-in, line-before, line-past, line-paired}
+use Rattle.differing.specs.RowDifferences.{RowsIn}
+use Rattle.differing.proofs.DifferLaws.{rows-in, line-before, line-past, line-paired}
 use Rattle.difference.proofs.row_differences.line_difference.Statement.{statement}
 use Rattle.difference.proofs.row_differences.line_difference.Tie as tie
 

@@ -2,9 +2,9 @@
 use Prim.Native.Nat.{ℕ, _+_, _*_}
 use native.Mathlib.Omega.{arith}
 use borrow.Author.Needs.{needs}
-use Rattle.difference.specs.RowDifferences.{movedDiffer}
+use Rattle.differing.specs.RowDifferences.{movedDiffer}
 use Rattle.popcount.proofs.RowLaws.{adds-more, adds-le, bits-le, row-words-le}
-use Rattle.difference.proofs.DifferLaws.{movedDiffer-lt, rowDiffer-past, row-parts}
+use Rattle.differing.proofs.DifferLaws.{movedDiffer-lt, rowDiffer-past, row-parts}
 use Rattle.difference.proofs.row_differences.row_difference.Statement.{statement}
 use Rattle.difference.proofs.row_differences.row_difference.Tie as tie
 

@@ -2,7 +2,7 @@
 use Prim.Native.Nat.{_*_, _/_}
 use native.Mathlib.Omega.{arith}
 use borrow.Author.Needs.{needs}
-use Rattle.grey.proofs.ColourLaws.{grey-rest}
+use Rattle.grey.proofs.ConversionLaws.{grey-rest}
 use Rattle.grey.proofs.conversion.convert.Statement.{statement}
 use Rattle.grey.proofs.conversion.convert.Tie as tie
 

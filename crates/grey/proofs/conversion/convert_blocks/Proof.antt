@@ -6,7 +6,7 @@ use borrow.Author.Needs.{needs}
 use Rattle.rules.specs.Buffers.{RowAt}
 use Rattle.rules.proofs.FrameLaws.{row-none}
 use Rattle.grey.specs.GreyPlaces.{greyAt}
-use Rattle.grey.proofs.ColourLaws.{block-grey, grey-more}
+use Rattle.grey.proofs.ConversionLaws.{block-grey, grey-more}
 use Rattle.grey.proofs.conversion.convert_blocks.Statement.{statement}
 use Rattle.grey.proofs.conversion.convert_blocks.Tie as tie
 

@@ -5,8 +5,8 @@ use native.Mathlib.Omega.{arith}
 use borrow.Author.Needs.{needs}
 use Rattle.rules.specs.Buffers.{RowAt}
 use Rattle.rules.proofs.FrameLaws.{row-none}
-use Rattle.halve.specs.HalfPlaces.{halfAt}
-use Rattle.halve.proofs.HalfLaws.{even-half, block-more}
+use Rattle.half_block.specs.HalfPlaces.{halfAt}
+use Rattle.half_block.proofs.HalfLaws.{even-half, block-more}
 use Rattle.halve.proofs.halving.halve_blocks.Statement.{statement}
 use Rattle.halve.proofs.halving.halve_blocks.Tie as tie
 

@@ -8,7 +8,7 @@ use Rattle.rules.specs.Frames.{frameOf}
 use Rattle.rules.specs.Greys.{halved}
 use Rattle.rules.specs.Buffers.{FrameAt}
 use Rattle.rules.proofs.FrameLaws.{frame-none, row-fits}
-use Rattle.halve.proofs.HalfLaws.{rows-fit, half-more}
+use Rattle.half_block.proofs.HalfLaws.{rows-fit, half-more}
 use Rattle.halve.proofs.halving.halve_frame.Statement.{statement}
 use Rattle.halve.proofs.halving.halve_frame.Tie as tie
 

@@ -5,7 +5,7 @@ use native.Mathlib.Omega.{arith}
 use borrow.Author.Needs.{needs}
 use Rattle.rules.specs.Buffers.{RowAt}
 use Rattle.rules.proofs.FrameLaws.{row-none, row-more}
-use Rattle.halve.specs.HalfPlaces.{halfAt}
+use Rattle.half_block.specs.HalfPlaces.{halfAt}
 use Rattle.halve.proofs.halving.halve_rest.Statement.{statement}
 use Rattle.halve.proofs.halving.halve_rest.Tie as tie
 

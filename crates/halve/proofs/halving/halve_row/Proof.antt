@@ -2,7 +2,7 @@
 use Prim.Native.Nat.{_*_}
 use native.Mathlib.Omega.{arith}
 use borrow.Author.Needs.{needs}
-use Rattle.halve.proofs.HalfLaws.{rest-more}
+use Rattle.half_block.proofs.HalfLaws.{rest-more}
 use Rattle.halve.proofs.halving.halve_row.Statement.{statement}
 use Rattle.halve.proofs.halving.halve_row.Tie as tie
 

@@ -15,11 +15,11 @@ place c = c .biased .ensures ∙ ap biasOf (toZ-ofZ (c .before .fits .d))
 biased-requires : tie.Need-biased-requires
 biased-requires c κs = search needs
 
-sub-lower : tie.Need-sub-lower
-sub-lower c = search needs
+sub-smaller : tie.Need-sub-smaller
+sub-smaller c = search needs
 
-lower-requires : tie.Need-lower-requires
-lower-requires c κs = search needs
+smaller-requires : tie.Need-smaller-requires
+smaller-requires c κs = search needs
 
 sub-t7 : tie.Need-sub-t7
 sub-t7 c = search needs
@@ -28,10 +28,10 @@ returns : tie.Need-returns
 returns c =
     let s = c .before .before .before in
     let e = place (c .before .before) in
-    clipped-left (s .args .side) (s .args .d) (s .fits .d) (c .lower .result) (omega arith) (omega arith)
+    clipped-left (s .args .side) (s .args .d) (s .fits .d) (c .smaller .result) (omega arith) (omega arith)
 
-lower-requires-2 : tie.Need-lower-requires-2
-lower-requires-2 c κs = search needs
+smaller-requires-2 : tie.Need-smaller-requires-2
+smaller-requires-2 c κs = search needs
 
 sub-t8 : tie.Need-sub-t8
 sub-t8 c = search needs
@@ -40,17 +40,17 @@ returns-2 : tie.Need-returns-2
 returns-2 c =
     let s = c .before .before .before in
     let e = place (c .before .before) in
-    clipped-right (s .args .side) (s .args .d) (s .fits .d) (c .lower2 .result) (omega arith) (omega arith)
+    clipped-right (s .args .side) (s .args .d) (s .fits .d) (c .smaller2 .result) (omega arith) (omega arith)
 
 pub clip-spec : {M : Type 1} → statement M
 clip-spec =
     tie.close
     (tie.spec
     biased-requires
-    sub-lower
-    lower-requires
+    sub-smaller
+    smaller-requires
     sub-t7
     returns
-    lower-requires-2
+    smaller-requires-2
     sub-t8
     returns-2)

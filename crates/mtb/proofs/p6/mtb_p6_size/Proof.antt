@@ -3,7 +3,8 @@ use mathlib.Core.Path.{_≡_, sym, ap, _∙_}
 use native.Mathlib.Omega.{arith}
 use borrow.Author.Needs.{needs}
 use Rattle.ppm_read.specs.declared.Size.{Size}
-use Rattle.ppm_read.specs.P6.{headerOf, p6Refusal, sizeIn}
+use Rattle.p6_header.specs.P6Header.{headerOf}
+use Rattle.ppm_read.specs.P6.{p6Refusal, sizeIn}
 use Rattle.mtb.proofs.FitLaws.{SmallSize, size-small}
 use Rattle.mtb.proofs.ValueLaws.{read-frame, read-refused, value-kept}
 use Rattle.mtb.proofs.p6.mtb_p6_size.Statement.{statement}

@@ -2,9 +2,10 @@
 use mathlib.Core.Path.{_≡_, sym, _∙_}
 use Rattle.rules.specs.Accepted.{SizeOk}
 use Rattle.rules.proofs.RefusalLaws.{orElse-none, size-known}
-use Rattle.ppm_read.specs.declared.Header.{Header}
-use Rattle.ppm_read.specs.P6.{headerOf, headerRefusal, p6Refusal}
-use Rattle.ppm_read.proofs.HeaderLaws.{good-within}
+use Rattle.p6_header.specs.declared.Header.{Header}
+use Rattle.p6_header.specs.P6Header.{headerOf}
+use Rattle.ppm_read.specs.P6.{headerRefusal, p6Refusal}
+use Rattle.p6_header.proofs.HeaderLaws.{good-within}
 use native.Mathlib.Omega.{arith}
 use borrow.Author.Needs.{needs}
 use Rattle.ppm_read.proofs.reading.file_refusal.Statement.{statement}

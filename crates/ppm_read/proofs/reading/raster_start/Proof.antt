@@ -1,6 +1,6 @@
 -- The header that was parsed decides.
 use mathlib.Core.Path.{sym, _∙_}
-use Rattle.ppm_read.specs.P6.{startIn}
+use Rattle.p6_header.specs.P6Header.{startIn}
 use borrow.Author.Needs.{needs}
 use Rattle.ppm_read.proofs.reading.raster_start.Statement.{statement}
 use Rattle.ppm_read.proofs.reading.raster_start.Tie as tie

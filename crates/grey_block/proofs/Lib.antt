@@ -1,0 +1,2 @@
+-- Laws of bytes brought together by colour, for the functions' proofs.
+pub mod ColourLaws

@@ -1,0 +1,2 @@
+-- Blocks of 32 pixels.
+pub mod GreyBlocks

@@ -1,2 +1,0 @@
--- Laws of rows halved block by block, for the core's proofs.
-pub mod HalfLaws

@@ -1,0 +1,3 @@
+-- Laws of P6 files' headers, field by field.
+pub mod FieldLaws
+pub mod HeaderLaws

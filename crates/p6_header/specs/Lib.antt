@@ -1,0 +1,2 @@
+-- The header of P6 files.
+pub mod P6Header
