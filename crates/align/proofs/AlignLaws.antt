@@ -23,7 +23,7 @@ use Rattle.rules.proofs.OffsetLaws.{near-add, near-more, near-pair, near-arrang
 use Rattle.rules.proofs.PairLaws.{halved-ext, count-ext, pair-ext}
 use Rattle.rules.proofs.AlignmentLaws.{level-pixels-step, level-pixels-at}
 use Rattle.level_planes.specs.FrameSides.{Sides}
-use Rattle.level_counts.specs.SlidPlaces.{nineOf}
+use Rattle.level_counts.specs.NineCounts.{nineOf}
 use Rattle.level.specs.Choices.{countBy, LevelAligned}
 use Rattle.align.specs.Aligns.{Frames, Aligns, alignedIn, countOf}
 

@@ -1,15 +1,12 @@
--- Laws of the numbers that stand first, of the shortest side that s halvings allow, of a bitmap's length, and of the walk over the percentiles.
-use mathlib.Core.Path.{_≡_, refl, sym, _∙_}
+-- Laws of the numbers that stand first, and of the walk over the percentiles.
+use mathlib.Core.Path.{_≡_, refl, _∙_}
 use mathlib.Core.Bool.{true, false}
 use mathlib.Core.List.{List}
-use Prim.Native.Nat.{ℕ, zero, suc, _+_, _*_, _%_, _^_, _≤_, _<_}
-use native.Mathlib.Nat.{mul-comm, mul-le-mul}
+use Prim.Native.Nat.{ℕ, zero, suc, _+_, _≤_, _<_}
 use native.Mathlib.Numerals.{add-one}
 use native.Mathlib.Omega.{arith}
-use lib.Pow.{shl-exact, pow-add}
 use lib.ListN.{length, drop, getD, drop-of-length-le}
 use lib.Seq.{drop-cons}
-use Rattle.rules.specs.Bitmaps.{rowWords}
 use Rattle.rules.specs.Refusals.{_when_, _orElse_, badSize, badHalvings, tooSmall, shapeRefusal, badFrames, badReference, badPercentile, someBadPercentile}
 
 -- A number k of three conditions, the first of a call's: where it is not 0 it is the call's, else the rest is.
@@ -42,15 +39,6 @@ frames-first excluded n r k = first-of-three k excluded (6 when badFrames n) (7 
 pub frames-pass : (excluded n r k : ℕ) → k ≡ excluded orElse 6 when badFrames n orElse 7 when badReference n r → k ≡ 0 → (rest : ℕ)
     → excluded orElse 6 when badFrames n orElse 7 when badReference n r orElse rest ≡ rest
 frames-pass excluded n r k e z rest = none-of-three k excluded (6 when badFrames n) (7 when badReference n r) rest e z
-
--- the shift loses no bit
-pub shortest-side : (s : ℕ) → s ≤ 8 → 4 * 2 ^ s % 2 ^ 64 ≡ 2 ^ (s + 2)
-shortest-side s l = shl-exact {a = 4} 3 s 64 (omega arith) (omega arith) ∙ mul-comm 4 (2 ^ s) ∙ sym (pow-add 2 s 2)
-
--- a bitmap's words
-pub bitmap-fit : (w h : ℕ) → w ≤ 4096 → h ≤ 4096 → rowWords w * h ≤ 262144
-unfolding rowWords
-bitmap-fit w h v u = let n : rowWords w ≤ 64 = omega arith in mul-le-mul n u
 
 -- The percentiles passed are good, so the rest decides whether one is bad.
 pub bad-rest : (ps : List ℕ) (k : ℕ) → k < length ps → someBadPercentile ps ≡ someBadPercentile (drop k ps) → badPercentile (getD ps k 0) ≡ false

@@ -1,2 +1,2 @@
--- Laws of the walk over the percentiles, and of the shortest side.
+-- Laws of the numbers that stand first, and of the walk over the percentiles.
 pub mod AlignRefusalLaws

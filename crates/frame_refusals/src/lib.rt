@@ -5,8 +5,8 @@ use refusals::NONE;
 use refusals::bad_percentile;
 use refusals::bad_size;
 use refusals::lowest;
-use refusals::row_words;
 use refusals::tolerance_refusal;
+use words::row_words;
 ghost use mathlib.Core.Path.{_≡_};
 ghost use Rattle.rules.specs.Refusals.{greyRefusal, halveRefusal, thresholdRefusal, bitmapsRefusal, shiftRefusal, totalRefusal, differenceRefusal};
 

@@ -18,7 +18,8 @@ use Rattle.rules.proofs.LevelLaws.{chosen-is, arranged-at, arranged-length}
 use Rattle.candidates.specs.Leading.{countsBy, Leading}
 use Rattle.level_planes.specs.LevelPlanes.{PackedAt}
 use Rattle.level_planes.proofs.PlaneLaws.{planes-kept}
-use Rattle.level_counts.specs.SlidPlaces.{nineOf, wordsCount}
+use Rattle.level_counts.specs.NineCounts.{nineOf}
+use Rattle.slid_counts.specs.SlidPlaces.{wordsCount}
 use Rattle.level.specs.Choices.{countBy, LevelAligned}
 
 -- The count over the words of two frames' bitmaps is the count of the frames.

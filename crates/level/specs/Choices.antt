@@ -7,7 +7,7 @@ use Rattle.rules.specs.declared.Setup.{Setup}
 use Rattle.rules.specs.Frames.{Frame}
 use Rattle.rules.specs.Buffers.{RowAt}
 use Rattle.rules.specs.Levels.{added, ruleOf, chosen, countAt}
-use Rattle.level_counts.specs.SlidPlaces.{nineOf}
+use Rattle.level_counts.specs.NineCounts.{nineOf}
 
 -- the difference count of two grey frames at a candidate, as a setup says
 abbrev pub countBy : Setup → Frame → Frame → Offset → ℕ

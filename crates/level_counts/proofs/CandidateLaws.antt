@@ -1,44 +1,17 @@
--- The count over parts of lent words, and the candidates of a column.
+-- Laws of the candidates of a column.
 use mathlib.Core.Path.{_≡_, sym, ap, _∙_}
-use mathlib.Core.List.{List}
-use Prim.Native.Nat.{ℕ, _+_, _*_, _-_, _/_, _%_, _<_}
+use Prim.Native.Nat.{ℕ, _+_, _*_, _/_, _%_, _<_}
 use native.Mathlib.Omega.{arith}
-use lib.IntN.{ℤ, pos, _+ℤ_}
-use lib.ListN.{length, take, drop, length-drop}
-use lib.Seq.{take-all}
+use lib.IntN.{_+ℤ_}
 use mir.Syntax.{w32}
-use mir.Val.{SFits, toZ, ofZ}
-use mir.Facts.{toZ-ofZ}
+use mir.Val.{toZ, ofZ}
 use Rattle.rules.specs.Limits.{maxCentre, maxCandidate}
-use Rattle.rules.specs.Bitmaps.{rowWords}
-use Rattle.rules.specs.Differences.{difference}
-use Rattle.rules.specs.Calls.{planesOf}
 use Rattle.rules.specs.declared.Offset.{Offset}
 use Rattle.rules.proofs.OffsetLaws.{near-add}
 use Rattle.rules.specs.Levels.{candidateAt, stepOf, Near}
 use Rattle.rules.proofs.LevelLaws.{candidate-is}
 use Rattle.rules.proofs.SignedLaws.{bits-are}
 use Rattle.candidates.proofs.LeadingLaws.{step-near}
-use Rattle.overlap.specs.WordRuns.{Clean}
-
--- a list from place n on, as it is lent
-abbrev lentFrom : ℕ → List ℕ → List ℕ
-lentFrom n l = take (length l - n) (drop n l)
-
-lent-is : (n : ℕ) (l : List ℕ) → lentFrom n l ≡ drop n l
-lent-is n l = take-all (length l - n) (drop n l) (let a = length-drop n l in omega arith)
-
--- the parts of the words from their bitmaps on, for the count against the slid frame
-module _ (w h n : ℕ) (words : List ℕ) (e : n ≡ rowWords w * h) where
-  pub parts-clean : Clean w h (drop (5 * (rowWords w * h)) words) → Clean w h (lentFrom (5 * n) words)
-  parts-clean clean = rw (lent-is (5 * n) words, e) clean
-
-  pub parts-count : (dy : ℤ) → SFits w32 dy
-      → difference w h (pos 0) (toZ w32 (ofZ w32 dy)) (planesOf w h words (lentFrom n words)) (planesOf w h (lentFrom (4 * n) words) (lentFrom (5 * n) words))
-      ≡ difference w h (pos 0) dy (planesOf w h words (drop (rowWords w * h) words)) (planesOf w h (drop (4 * (rowWords w * h)) words) (drop (5 * (rowWords w * h)) words))
-  parts-count dy fits =
-      (λ i. difference w h (pos 0) (toZ-ofZ fits i) (planesOf w h words (lent-is n words i)) (planesOf w h (lent-is (4 * n) words i) (lent-is (5 * n) words i)))
-      ∙ ap (λ (m : ℕ). difference w h (pos 0) dy (planesOf w h words (drop m words)) (planesOf w h (drop (4 * m) words) (drop (5 * m) words))) e
 
 pub candidate-near : (centre : Offset) (k : ℕ) → k < 9 → Near maxCentre centre → Near maxCandidate (candidateAt centre k)
 candidate-near centre k l near =

@@ -1,3 +1,2 @@
--- Laws of slid bitmaps and of the counts over them.
+-- Laws of the candidates of a column.
 pub mod CandidateLaws
-pub mod SlidCountLaws

@@ -1,2 +1,2 @@
--- What the counts of a level require and give.
-pub mod SlidPlaces
+-- The counts of a level.
+pub mod NineCounts

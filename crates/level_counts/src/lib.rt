@@ -1,54 +1,20 @@
-// Difference counts of the two frames whose bitmaps stand one after the other in lent words.
+// The difference counts of a level at the nine candidates, of two frames whose bitmaps stand one after the
+// other in lent words.
 
 use candidates::candidate;
-use level_planes::bitmap_words;
-use overlap::overlap_frame;
 use rules::Offset;
-use slide::slide_within;
-ghost use mathlib.Core.Path.{_≡_};
+use slid_counts::count_slid;
+use slid_counts::slide_second;
 ghost use Prim.Native.Nat.{_+_, _*_, _≤_, _<_};
 ghost use lib.ListN.{length};
-ghost use Rattle.rules.specs.Limits.{maxCentre, maxCandidate};
+ghost use Rattle.rules.specs.Limits.{maxCentre};
 ghost use Rattle.rules.specs.Bitmaps.{rowWords};
 ghost use Rattle.rules.specs.Buffers.{RowAt};
 ghost use Rattle.rules.specs.Levels.{candidateAt, Near};
 ghost use Rattle.popcount.specs.Table.{CountsBits};
 ghost use Rattle.level_planes.specs.FrameSides.{Sides};
-ghost use Rattle.level_counts.specs.SlidPlaces.{nineOf, columnOf, KeptTo, SlidAt, wordsCount};
-
-// The second frame's bitmaps, moved right by dx, into the words after the four.
-fn slide_second(words: &mut [u64], w: usize, h: usize, dx: i32)
-    requires sides { ⌜ Sides w h ⌝ }
-    requires room { ⌜ 6 * (rowWords w * h) ≤ length (now words) ⌝ }
-    ensures kept { λ _. ⌜ KeptTo (4 * (rowWords w * h)) (now (words .entry)) (now (words .exit)) ⌝ }
-    ensures slid { λ _. ⌜ SlidAt w h dx (now (words .exit)) ⌝ }
-{
-    let n = bitmap_words(w, h);
-    slide_within(words, 2 * n, w, h, dx, 4 * n);
-    slide_within(words, 3 * n, w, h, dx, 5 * n);
-}
-
-// The count at an offset whose dx the second frame has been slid by.
-fn count_slid(words: &[u64], w: usize, h: usize, m: Offset, table: &[u8; 256]) -> u32
-    requires sides { ⌜ Sides w h ⌝ }
-    requires room { ⌜ 6 * (rowWords w * h) ≤ length (now words) ⌝ }
-    requires near { ⌜ Near maxCandidate m ⌝ }
-    requires slid { ⌜ SlidAt w h (m .dx) (now words) ⌝ }
-    requires table { ⌜ CountsBits (now table) ⌝ }
-    ensures { λ r. ⌜ r ≡ wordsCount w h (now (words .entry)) m ⌝ }
-{
-    let n = bitmap_words(w, h);
-    overlap_frame(
-        w,
-        h,
-        m.dy,
-        words,
-        &words[n..],
-        &words[4 * n..],
-        &words[5 * n..],
-        table,
-    )
-}
+ghost use Rattle.level_counts.specs.NineCounts.{nineOf, columnOf};
+ghost use Rattle.slid_counts.specs.SlidPlaces.{SlidAt, wordsCount};
 
 // The counts at the three candidates of column i, written from place `at` on.
 fn three_counts(

@@ -8,12 +8,12 @@ ghost use Rattle.rules.specs.Calls.{toleranceSetup, PairCall, toleranceSettings
 ghost use Rattle.rules.specs.Refusals.{shapeRefusal, greyNeeded, wordsNeeded};
 ghost use Rattle.mtb.specs.Values.{valueAfter, offset};
 use crate::numbers::refusal_in;
-use align_refusals::grey_memory;
-use align_refusals::shape_refusal;
-use align_refusals::word_memory;
 use pair::pair;
 use rules::Paired;
 use series::series;
+use work_memory::grey_memory;
+use work_memory::shape_refusal;
+use work_memory::word_memory;
 
 #[no_mangle]
 pub extern "C" fn mtb_pair(

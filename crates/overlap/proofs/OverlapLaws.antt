@@ -7,45 +7,20 @@ use native.Mathlib.Nat.{add-mul, mul-assoc, mul-comm, mul-le-mul}
 use native.Mathlib.Omega.{arith}
 use lib.ListN.{getD}
 use lib.IntN.{ℤ, pos}
-use lib.Bits.{bitAnd, bitXor}
 use mir.Syntax.{w32}
 use mir.Val.{SFits}
 use Rattle.rules.specs.Sums.{sum, sumPixels}
 use Rattle.rules.specs.Bitmaps.{bit, rowWords}
 use Rattle.rules.specs.Differences.{difference}
 use Rattle.rules.specs.Calls.{planesOf}
-use Rattle.rules.proofs.SumLaws.{order, sum-ext, sum-zero, sum-split, sum-none, pixels-flat}
-use Rattle.words.specs.Rows.{WordOf, rowBit, bias, biasOf}
+use Rattle.rules.proofs.SumLaws.{order, sum-ext, sum-zero, sum-split, pixels-flat}
+use Rattle.words.specs.Rows.{rowBit, bias, biasOf}
 use Rattle.words.proofs.MoveLaws.{gate-lt, back-at}
 use Rattle.words.specs.Moves.{movedBit}
-use Rattle.popcount.specs.RowCounts.{Adds}
 use Rattle.differing.specs.RowDifferences.{disagree, rowDiffer, lineDiffer}
-use Rattle.overlap.specs.WordRuns.{runBit, runDiffer, Clean}
-use Rattle.popcount.proofs.RowLaws.{sum-stop, adds-more, row-words-le}
-use Rattle.differing.proofs.DifferLaws.{disagree-lt, disagree-right, mixed-bit, line-before, line-past, line-paired, frame-whole}
-
--- ---- the bits of a run
-
-run-bit : (words : List ℕ) (from k b : ℕ) → b < 64 → bit (getD words (from + k) 0) b ≡ runBit words from (k * 64 + b)
-unfolding runBit
-run-bit words from k b l =
-    let q : from + k ≡ from + (k * 64 + b) / 64 = omega arith in
-    let r : b ≡ (k * 64 + b) % 64 = omega arith in
-    ap₂ (λ (i j : ℕ). bit (getD words i 0) j) q r
-
-pub run-word : (t1 e1 t2 e2 : List ℕ) (i x k : ℕ)
-    → WordOf (runDiffer t1 e1 t2 e2 i x) k (bitAnd (bitXor (getD t1 (i + k) 0) (getD t2 (x + k) 0)) (bitAnd (getD e1 (i + k) 0) (getD e2 (x + k) 0)))
-unfolding runDiffer
-run-word t1 e1 t2 e2 i x k b l =
-    mixed-bit (getD t1 (i + k) 0) (getD e1 (i + k) 0) (getD t2 (x + k) 0) (getD e2 (x + k) 0) b
-    ∙ (λ j. disagree (run-bit t1 i k b l j) (run-bit e1 i k b l j) (run-bit t2 x k b l j) (run-bit e2 x k b l j))
-
-pub runDiffer-lt : (t1 e1 t2 e2 : List ℕ) (i x p : ℕ) → runDiffer t1 e1 t2 e2 i x p < 2
-unfolding runDiffer
-runDiffer-lt t1 e1 t2 e2 i x p = disagree-lt (runBit t1 i p) (runBit e1 i p) (runBit t2 x p) (runBit e2 x p)
-
-pub run-whole : (f : ℕ → ℕ) (rest len a b : ℕ) → Adds f 0 rest a → Adds f rest len b → a + b ≡ sum (len * 64) f
-run-whole f rest len a b p q = let z = sum-none f in omega (arith, adds-more f 0 rest len a b p q)
+use Rattle.word_runs.specs.WordRuns.{runBit, runDiffer, Clean}
+use Rattle.popcount.proofs.RowLaws.{sum-stop, row-words-le}
+use Rattle.differing.proofs.DifferLaws.{disagree-right, line-before, line-past, line-paired, frame-whole}
 
 -- ---- a row of a run
 

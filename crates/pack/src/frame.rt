@@ -1,6 +1,7 @@
 // Both bitmaps of a grey frame.
 
 use crate::packed_rows::pack_row;
+use words::row_words;
 ghost use mathlib.Core.Path.{_≡_};
 ghost use Prim.Native.Nat.{_*_, _≤_};
 ghost use lib.ListN.{length};
@@ -23,7 +24,7 @@ pub fn pack_frame(
     ensures { λ _. ⌜ FrameAt 0 (rowWords w) (wordOf w (outsidePlane 0 threshold w (now (grey .entry)))) (now (thresholds .entry)) h (now (thresholds .exit)) ⌝ }
     ensures { λ _. ⌜ FrameAt 0 (rowWords w) (wordOf w (outsidePlane lo hi w (now (grey .entry)))) (now (exclusions .entry)) h (now (exclusions .exit)) ⌝ }
 {
-    let n = refusals::row_words(w);
+    let n = row_words(w);
     let mut y: usize = 0;
     while y < h {
         let from = y * w;

@@ -4,6 +4,8 @@ use flags::WEIGHTS;
 use flags::flags_of;
 use gather::columns::gather_columns;
 use gather::turning::turn_row;
+use words::WORD_BITS;
+use words::row_words;
 ghost use mathlib.Core.Path.{_≡_};
 ghost use Prim.Native.Nat.{_+_, _*_, _≤_};
 ghost use lib.ListN.{length};
@@ -28,15 +30,15 @@ fn pack_columns(grey: &[u8], from: usize, w: usize, lo: u8, hi: u8, out: &mut [u
     ensures { λ _. ⌜ RowAt to (columnsWord lo hi (now (grey .entry)) from w) (now (out .entry)) (rowWords w) (now (out .exit)) ⌝ }
 {
     let weights = WEIGHTS;
-    let full = w / 64;
-    let rest = w % 64;
+    let full = w / WORD_BITS;
+    let rest = w % WORD_BITS;
     let mut k: usize = 0;
     while k < full {
-        out[to + k] = pack_word(grey, from + k * 64, 64, lo, hi, &weights);
+        out[to + k] = pack_word(grey, from + k * WORD_BITS, WORD_BITS, lo, hi, &weights);
         k += 1;
     }
     if rest > 0 {
-        out[to + full] = pack_word(grey, from + full * 64, rest, lo, hi, &weights);
+        out[to + full] = pack_word(grey, from + full * WORD_BITS, rest, lo, hi, &weights);
     }
 }
 
@@ -46,6 +48,6 @@ pub fn pack_row(grey: &[u8], from: usize, w: usize, lo: u8, hi: u8, out: &mut [u
     ensures { λ _. ⌜ RowAt to (outsideWord lo hi (now (grey .entry)) from w) (now (out .entry)) (rowWords w) (now (out .exit)) ⌝ }
 {
     pack_columns(grey, from, w, lo, hi, out, to);
-    let n = refusals::row_words(w);
+    let n = row_words(w);
     turn_row(out, to, n);
 }

@@ -3,7 +3,6 @@
 // none does.
 
 ghost use mathlib.Core.Path.{_≡_};
-ghost use Rattle.rules.specs.Bitmaps.{rowWords};
 ghost use Rattle.rules.specs.Refusals.{_when_, _orElse_, badSize, badFrames, badPercentile, toleranceRefusal};
 
 pub const MAX_SIDE: usize = 4096;
@@ -86,13 +85,6 @@ pub fn lowest(f: Faults) -> u32
         return 14;
     }
     0
-}
-
-// The words of a bitmap row. (Written so that no width overflows.)
-pub fn row_words(w: usize) -> usize
-    ensures { λ r. ⌜ r ≡ rowWords w ⌝ }
-{
-    w / 64 + (w % 64 + 63) / 64
 }
 
 pub fn bad_size(w: usize, h: usize) -> bool

@@ -16,7 +16,7 @@ use Rattle.rules.proofs.RefusalLaws.{written-refused, buffer-refused}
 use Rattle.rules.proofs.SeriesLaws.{frame-list-ext}
 use Rattle.offsets.specs.PairOffsets.{pairOffset}
 use Rattle.offsets.proofs.PairOffsetLaws.{written-pair}
-use Rattle.series_pairs.specs.PairRuns.{pairsOf, PairsOk, AllRan}
+use Rattle.next_pair.specs.PairRuns.{pairsOf, PairsOk, AllRan}
 use Rattle.series.specs.Settings.{settingsOf}
 
 -- an accepted series gives its pairs what they need

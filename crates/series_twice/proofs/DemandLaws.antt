@@ -19,7 +19,7 @@ use Rattle.rules.proofs.AlignmentLaws.{series-ok}
 use Rattle.reexposure.specs.Reexposure.{Bytes, Sound, Bounded, Alike}
 use Rattle.reexposure.proofs.Theorem.{demand3}
 use Rattle.align.proofs.AlignLaws.{counts-length}
-use Rattle.series_pairs.proofs.RunLaws.{length-counts}
+use Rattle.next_pair.proofs.RunLaws.{length-counts}
 use Rattle.series_twice.specs.Demand.{packedAnswer, Given, Demanded}
 
 module _ (preferred : List Offset) (S : Settings) where

@@ -1,9 +1,9 @@
 // The 1 bits of a bitmap.
 
 use popcount::table::word_count;
-use refusals::row_words;
 use words::WORD_BITS;
 use words::keep_low;
+use words::row_words;
 ghost use mathlib.Core.Path.{_≡_};
 ghost use Prim.Native.Nat.{_+_, _*_, _<_, _≤_};
 ghost use lib.ListN.{length};

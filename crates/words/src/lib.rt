@@ -20,6 +20,13 @@ pub const BIAS: usize = 2147483648;
 // 2^31 / 64
 pub const BIAS_WORDS: usize = 33554432;
 
+// The words of a row of w pixels. (Written so that no width overflows.)
+pub fn row_words(w: usize) -> usize
+    ensures { λ r. ⌜ r ≡ rowWords w ⌝ }
+{
+    w / WORD_BITS + (w % WORD_BITS + 63) / WORD_BITS
+}
+
 // The low n bits of a word; the others are 0.
 pub fn keep_low(v: u64, n: usize) -> u64
     ensures { λ r. ⌜ ((i : ℕ) → bit r i ≡ gate (ltb i n) (bit v i)) ⌝ }

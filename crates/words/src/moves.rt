@@ -4,7 +4,7 @@ use crate::BIAS_WORDS;
 use crate::WORD_BITS;
 use crate::keep_low;
 use crate::moved_word;
-use refusals::row_words;
+use crate::row_words;
 ghost use mathlib.Core.Path.{_≡_};
 ghost use Prim.Native.Nat.{_+_, _*_, _<_, _≤_, min, max};
 ghost use lib.ListN.{length};

@@ -4,7 +4,7 @@ use Prim.Native.Nat.{ℕ, _*_}
 use lib.ListN.{drop}
 use Rattle.rules.specs.Frames.{frameOf}
 use Rattle.rules.specs.Bitmaps.{rowWords}
-use Rattle.level_counts.specs.SlidPlaces.{wordsCount}
+use Rattle.slid_counts.specs.SlidPlaces.{wordsCount}
 use Rattle.level.specs.Choices.{countBy}
 use Rattle.level.proofs.ChoiceLaws.{words-count, level-aligned}
 use borrow.Author.Needs.{needs}

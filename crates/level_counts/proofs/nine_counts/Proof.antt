@@ -7,9 +7,10 @@ use Rattle.rules.specs.Bitmaps.{rowWords}
 use Rattle.rules.specs.Buffers.{RowAt}
 use Rattle.rules.proofs.FrameLaws.{row-none, row-join}
 use Rattle.rules.specs.Levels.{candidateAt}
-use Rattle.level_counts.specs.SlidPlaces.{KeptTo, SlidAt, wordsCount, nineOf, columnOf}
+use Rattle.level_counts.specs.NineCounts.{nineOf, columnOf}
+use Rattle.slid_counts.specs.SlidPlaces.{KeptTo, SlidAt, wordsCount}
 use Rattle.level_counts.proofs.CandidateLaws.{candidate-dx}
-use Rattle.level_counts.proofs.SlidCountLaws.{count-kept}
+use Rattle.slid_counts.proofs.SlidCountLaws.{count-kept}
 use native.Mathlib.Omega.{arith}
 use borrow.Author.Needs.{needs}
 use Rattle.level_counts.proofs.nine_counts.Statement.{statement}

@@ -5,7 +5,8 @@ use Rattle.rules.specs.declared.Offset.{Offset}
 use Rattle.rules.specs.Buffers.{RowAt}
 use Rattle.rules.proofs.FrameLaws.{row-none, row-more}
 use Rattle.rules.specs.Levels.{candidateAt}
-use Rattle.level_counts.specs.SlidPlaces.{wordsCount, columnOf}
+use Rattle.level_counts.specs.NineCounts.{columnOf}
+use Rattle.slid_counts.specs.SlidPlaces.{wordsCount}
 use Rattle.level_counts.proofs.CandidateLaws.{candidate-near, column-dx}
 use native.Mathlib.Omega.{arith}
 use borrow.Author.Needs.{needs}

@@ -7,8 +7,8 @@ use borrow.Author.Needs.{needs}
 use Rattle.rules.specs.Levels.{arranged}
 use Rattle.rules.proofs.AlignmentLaws.{level-pixels-at}
 use Rattle.popcount.proofs.TableLaws.{counts-bits}
-use Rattle.series_pairs.specs.PairRuns.{pairsOf, PairsOk, Run}
-use Rattle.series_pairs.proofs.RunLaws.{made, whole-room, pair-sizes, pairs-length, room-at, room-kept, run-none, first-stands-at, run-more, run-all}
+use Rattle.next_pair.specs.PairRuns.{pairsOf, PairsOk, Run}
+use Rattle.next_pair.proofs.RunLaws.{made, whole-room, pair-sizes, pairs-length, room-at, room-kept, run-none, first-stands-at, run-more, run-all}
 use Rattle.series_pairs.proofs.align_pairs.Statement.{statement}
 use Rattle.series_pairs.proofs.align_pairs.Tie as tie
 

@@ -4,7 +4,7 @@ use Prim.Native.Nat.{_-_}
 use native.Mathlib.Omega.{arith}
 use lib.ListN.{length}
 use Rattle.rules.specs.Levels.{arranged}
-use Rattle.series_pairs.proofs.RunLaws.{pairs-small}
+use Rattle.next_pair.proofs.RunLaws.{pairs-small}
 use Rattle.series.proofs.SeriesAnswerLaws.{pairs-ok, answer-offsets, answer-counts}
 use borrow.Author.Needs.{needs}
 use Rattle.series.proofs.aligning.align_series.Statement.{statement}

@@ -10,7 +10,7 @@ use Rattle.rules.specs.Bitmaps.{rowWords}
 use Rattle.rules.specs.Accepted.{ShiftOk}
 use Rattle.words.specs.Rows.{biasOf}
 use Rattle.words.proofs.MoveLaws.{bias-lt}
-use Rattle.shift.specs.ShiftPlaces.{Sized}
+use Rattle.shift_rows.specs.ShiftPlaces.{Sized}
 use Rattle.shift.proofs.ShiftLaws.{shifted-written}
 use Rattle.shift.proofs.moved_rows.shift_bitmap.Statement.{statement}
 use Rattle.shift.proofs.moved_rows.shift_bitmap.Tie as tie

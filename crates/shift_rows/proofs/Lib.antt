@@ -1,0 +1,2 @@
+-- Laws of a row in its place.
+pub mod PlacedRowLaws

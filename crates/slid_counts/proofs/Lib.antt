@@ -1,0 +1,3 @@
+-- Laws of slid bitmaps and of the counts over them.
+pub mod SlidPartLaws
+pub mod SlidCountLaws

@@ -1,0 +1,2 @@
+-- Laws of rows moved sideways inside the memory that they lie in.
+pub mod SlideWordLaws

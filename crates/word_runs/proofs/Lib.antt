@@ -1,0 +1,2 @@
+-- Laws of runs of words.
+pub mod WordRunLaws

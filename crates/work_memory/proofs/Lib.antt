@@ -1,0 +1,2 @@
+-- Laws of sizes.
+pub mod MemoryLaws
