@@ -1,14 +1,14 @@
 // Comparison of lent buffers with their expected contents: in full, or by a digest.
 
-use crate::data::GREY;
-use crate::data::WORDS;
-use crate::data::number_of;
-use crate::data::output_on;
-use crate::data::part;
-use crate::data::signed;
-use crate::data::size;
-use crate::data::word_at;
-use crate::data::word_of;
+use vectors_data::data::GREY;
+use vectors_data::data::WORDS;
+use vectors_data::data::number_of;
+use vectors_data::data::output_on;
+use vectors_data::data::part;
+use vectors_data::data::signed;
+use vectors_data::data::size;
+use vectors_data::data::word_at;
+use vectors_data::data::word_of;
 
 // Buffers of more bytes than these are compared by their digest.
 const FULL_BYTES: usize = 256;

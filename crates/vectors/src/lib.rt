@@ -5,5 +5,3 @@
 pub mod answers;
 pub mod buffers;
 pub mod contents;
-pub mod data;
-pub mod tally;

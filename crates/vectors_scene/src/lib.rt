@@ -1,13 +1,13 @@
 // Test vectors: frames made by the formula of tests/FORMAT.md.
 
-use vectors::data::FILE_LENGTH;
-use vectors::data::MADE;
-use vectors::data::MADE_ROWS;
-use vectors::data::SCENE;
-use vectors::data::WIDTH;
-use vectors::data::field;
-use vectors::data::number_at;
-use vectors::data::size;
+use vectors_data::data::FILE_LENGTH;
+use vectors_data::data::MADE;
+use vectors_data::data::MADE_ROWS;
+use vectors_data::data::SCENE;
+use vectors_data::data::WIDTH;
+use vectors_data::data::field;
+use vectors_data::data::number_at;
+use vectors_data::data::size;
 
 // How far the window moves from one frame to the next.
 const MOVE_RIGHT: u64 = 3;
