@@ -8,7 +8,7 @@ use native.Mathlib.Nat.{zero-min, min-zero, suc-min-suc}
 use native.Mathlib.Omega.{arith}
 use lib.Dec.{eqb}
 use lib.ListN.{length, getD, take, drop, length-take}
-use lib.Seq.{take-take, take-all}
+use lib.Seq.{take-take}
 use borrow.Author.Tests.{eqb-true}
 use Rattle.rules.proofs.SumLaws.{order}
 use Rattle.text.specs.declared.Number.{Number}
