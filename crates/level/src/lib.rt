@@ -57,6 +57,7 @@ pub fn align_level(
     bitmaps_within(grey, first, setup, words, 0);
     bitmaps_within(grey, second, setup, words, 2 * n);
     nine_counts(words, w, h, centre, counts, at, table);
-    let best = first_least(counts, at, order);
-    candidate(centre, order[best])
+    let rank = first_least(counts, at, order);
+    let place = order[rank];
+    candidate(centre, place)
 }

@@ -7,6 +7,7 @@ use Rattle.rules.specs.Bitmaps.{rowWords}
 use Rattle.slid_counts.specs.SlidPlaces.{wordsCount}
 use Rattle.level.specs.Choices.{countBy}
 use Rattle.level.proofs.ChoiceLaws.{words-count, level-aligned}
+use native.Mathlib.Omega.{arith}
 use borrow.Author.Needs.{needs}
 use Rattle.level.proofs.align_level.Statement.{statement}
 use Rattle.level.proofs.align_level.Tie as tie
@@ -41,17 +42,18 @@ first-least-requires c κs =
     let p = begun (c .before .before .before .before .before .before) .pre in
     (rw (c .before .before .before .before .before .nine-counts .ensures .len) (p .1 .1 .1 .1 .1 .0), p .1 .1 .1 .1 .1 .1 .0)
 
-mul-candidate : tie.Need-mul-candidate
-mul-candidate c = search needs
+mul-place : tie.Need-mul-place
+mul-place c = search needs
 
-element-copy-out-candidate : tie.Need-element-copy-out-candidate
-element-copy-out-candidate c = search needs
+element-copy-out-place : tie.Need-element-copy-out-place
+element-copy-out-place c = search needs
 
 candidate-requires : tie.Need-candidate-requires
 candidate-requires c κs =
     let p = begun (c .before .before .before .before .before .before .before .before) .pre in
     let best = c .before .first-least in
-    (p .1 .1 .1 .1 .1 .1 .0 .inside (best .result) (best .ensures .inside), p .1 .1 .1 .1 .0)
+    let place = p .1 .1 .1 .1 .1 .1 .0 .inside (best .result) (best .ensures .inside) in
+    (omega arith, p .1 .1 .1 .1 .0)
 
 same-length : tie.Need-same-length
 same-length c = search needs
@@ -88,8 +90,8 @@ align-level-spec =
     bitmaps-within-requires-2
     nine-counts-requires
     first-least-requires
-    mul-candidate
-    element-copy-out-candidate
+    mul-place
+    element-copy-out-place
     candidate-requires
     same-length
     same-length-2
