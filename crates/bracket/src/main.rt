@@ -1,11 +1,11 @@
 // The program `bracket`: reads the settings line and two files, and prints what `report` makes of them.
 
+use files_text::GREY_LENT;
+use files_text::OUTPUT_LENT;
+use files_text::WORDS_LENT;
 use libc::STDIN_FILENO;
 use libc::STDOUT_FILENO;
-use report::GREY_LENT;
 use report::MAX_FILE;
-use report::OUTPUT_LENT;
-use report::WORDS_LENT;
 ghost use Rattle.io.specs.Counts.{Counts};
 
 // How much is read; report's proofs/ReadLimits shows that more would print nothing else. The longest
@@ -21,7 +21,7 @@ fn main() {
     let mut grey = [0u8; GREY_LENT];
     let mut words = [0u64; WORDS_LENT];
     let mut out = [0u8; OUTPUT_LENT];
-    let line = read_all(STDIN_FILENO, &mut input);
+    let line = read_line(STDIN_FILENO, &mut input);
     let one = read_file(b"first.ppm", &mut first);
     let two = read_file(b"second.ppm", &mut second);
     let n = report::report(
@@ -35,7 +35,31 @@ fn main() {
     io::write_all(STDOUT_FILENO, &out[..n]);
 }
 
-// Reads to the end of input, or until buf is full, and answers the number of bytes; 0 where a read
+// Reads a line with its byte 10, or to the end of input, or until buf is full, and answers the number
+// of bytes; 0 where a read fails. A byte at a time, so as not to wait for what comes after the line.
+fn read_line(fd: i32, buf: &mut [u8]) -> usize
+    ensures { λ r. ⌜ Counts r (now (buf .exit)) ⌝ }
+{
+    let mut done: usize = 0;
+    while done < buf.len() {
+        let next = done + 1;
+        let got = libc::read(fd, &mut buf[done..next]);
+        if got < 0 {
+            return 0;
+        }
+        if got == 0 {
+            return done;
+        }
+        let byte = buf[done];
+        done = next;
+        if byte == b'\n' {
+            return done;
+        }
+    }
+    done
+}
+
+// Reads to the end of a file, or until buf is full, and answers the number of bytes; 0 where a read
 // fails.
 fn read_all(fd: i32, buf: &mut [u8]) -> usize
     ensures { λ r. ⌜ Counts r (now (buf .exit)) ⌝ }

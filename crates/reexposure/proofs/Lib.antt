@@ -2,3 +2,4 @@
 pub mod Links
 pub mod SamePairs
 pub mod Theorem
+pub mod Tolerance1Laws

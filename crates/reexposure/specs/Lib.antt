@@ -1,2 +1,3 @@
 -- What the re-exposure theorem says.
 pub mod Reexposure
+pub mod Tolerance1

@@ -1,3 +1,3 @@
--- What the program `bracket` prints; then what its functions say of their parts.
+-- What the program `bracket` prints; and the printed case.
 pub mod Output
-pub mod PairTexts
+pub mod PrintedCase

@@ -1,19 +1,15 @@
--- What the program `bracket` prints: which lines, from its input and its two files.
-use mathlib.Core.Bool.{_&&_, cond}
+-- What the program `bracket` prints, and what its call leaves: from its input and its two files.
+use mathlib.Core.Path.{_≡_}
+use mathlib.Core.Bool.{Bool, false, cond}
 use mathlib.Core.List.{List, []}
-use Prim.Native.Nat.{ℕ, zero, suc}
-use lib.Dec.{eqb, leb}
+use Prim.Native.Nat.{ℕ}
+use lib.Dec.{leb}
 use lib.ListN.{length}
-use Rattle.rules.specs.Levels.{wardOrder, Aligned}
-use Rattle.rules.specs.Refusals.{_orElse_, countsLength, toleranceRefusal, pairRefusal}
-use Rattle.rules.specs.Limits.{maxHalvings}
-use Rattle.rules.specs.Calls.{toleranceSetup, pairResult}
-use Rattle.ppm_read.specs.declared.Size.{Size}
-use Rattle.p6_header.specs.P6Header.{headerOf}
-use Rattle.ppm_read.specs.P6.{sizeIn, p6Refusal, rasterOf}
+use Rattle.rules.specs.Frames.{writtenOver}
 use Rattle.settings_line.specs.declared.Settings.{Settings}
 use Rattle.settings_line.specs.SettingsLine.{settingsOf}
-use Rattle.output_lines.specs.Lines.{settingsText, refusedText, alignedText}
+use Rattle.output_lines.specs.Lines.{settingsText}
+use Rattle.files_text.specs.FilesText.{filesText, filesAlign}
 
 -- "65536 bytes at most each; a missing or longer file counts as empty."
 abbrev pub maxFile : ℕ
@@ -21,46 +17,6 @@ maxFile = 65536
 
 unfoldable pub asRead : List ℕ → List ℕ
 asRead file = cond (leb (length file) maxFile) file []
-
--- "It lends 65536 grey bytes and 8192 words."
-abbrev pub greyLent : ℕ
-greyLent = 65536
-
-abbrev pub wordsLent : ℕ
-wordsLent = 8192
-
--- and counts for the most levels that there can be
-abbrev pub countsLent : ℕ
-countsLent = countsLength maxHalvings
-
--- The second raster as the pair call gets it: "a second frame of another size counts as 9", an input of the wrong length, at its place
--- among the pair's numbers. So such a frame is handed over as no bytes at all.
-unfoldable pub secondRaster : List ℕ → List ℕ → List ℕ
-secondRaster first second =
-    cond (eqb (sizeIn (headerOf first) .w) (sizeIn (headerOf second) .w) && eqb (sizeIn (headerOf first) .h) (sizeIn (headerOf second) .h))
-    (rasterOf second) []
-
--- "the first file's, else the second's, else the pair's"
-unfoldable pub bracketRefusal : ℕ → ℕ → ℕ → List ℕ → List ℕ → ℕ
-bracketRefusal s tolerance percentile first second =
-    p6Refusal first
-    orElse p6Refusal second
-    orElse pairRefusal (sizeIn (headerOf first) .w) (sizeIn (headerOf first) .h) s (toleranceRefusal tolerance) percentile
-    (length (rasterOf first)) (length (secondRaster first second)) countsLent greyLent wordsLent
-
--- the text for a refusal number, or where there is none
-unfoldable pub answerText : ℕ → List ℕ → List ℕ
-answerText zero text = text
-answerText (suc n) text = refusedText (suc n)
-
--- the pair call's result, in Ward's order
-abbrev pub wardResult : Size → ℕ → ℕ → ℕ → List ℕ → List ℕ → Aligned
-wardResult size s tolerance percentile first second = pairResult wardOrder (toleranceSetup (size .w) (size .h) s tolerance percentile) first second
-
-unfoldable pub filesText : ℕ → ℕ → ℕ → List ℕ → List ℕ → List ℕ
-filesText s tolerance percentile first second =
-    answerText (bracketRefusal s tolerance percentile first second) (alignedText s
-    (wardResult (sizeIn (headerOf first)) s tolerance percentile (rasterOf first) (rasterOf second)))
 
 -- `settings` "before any file is tested"
 unfoldable pub outputBy : Settings → List ℕ → List ℕ → List ℕ
@@ -70,3 +26,17 @@ outputBy (Settings.Given s tolerance percentile) first second = filesText s tole
 -- all that `bracket` prints, from its standard input and the bytes of its two files
 unfoldable pub bracketOutput : List ℕ → List ℕ → List ℕ → List ℕ
 bracketOutput input first second = outputBy (settingsOf input) (asRead first) (asRead second)
+
+-- whether a pair is aligned, and the lent work memory so free: not for a bad line
+unfoldable pub alignsBy : Settings → List ℕ → List ℕ → Bool
+alignsBy Settings.Bad first second = false
+alignsBy (Settings.Given s tolerance percentile) first second = filesAlign s tolerance percentile first second
+
+unfoldable pub bracketAligns : List ℕ → List ℕ → List ℕ → Bool
+bracketAligns input first second = alignsBy (settingsOf input) (asRead first) (asRead second)
+
+-- what the call leaves: the number of bytes printed, those bytes at the beginning of its output and, where it refuses, its work memory as it was
+pub record BracketCall (input first second grey grey′ words words′ out out′ : List ℕ) (r : ℕ) : Type 0 where
+  pub answered : r ≡ length (bracketOutput input first second)
+  pub outputIs : out′ ≡ writtenOver (bracketOutput input first second) out
+  pub memoryKept : bracketAligns input first second ≡ false → (grey′ ≡ grey) × (words′ ≡ words)

@@ -1,25 +1,26 @@
 // What the program `bracket` prints, from what it has read: the offered call.
 
-mod files;
-
-use files::as_read;
-use files::put_files;
+use files_text::GREY_LENT;
+use files_text::OUTPUT_LENT;
+use files_text::WORDS_LENT;
+use files_text::put_files;
 use settings_line::Settings;
 use settings_line::settings_of;
 ghost use mathlib.Core.Path.{_≡_};
-ghost use lib.ListN.{length};
-ghost use Rattle.rules.specs.Frames.{writtenOver};
-ghost use Rattle.report.specs.Output.{bracketOutput};
+ghost use Rattle.report.specs.Output.{asRead, BracketCall};
 
 // The most bytes of a file that counts.
 pub const MAX_FILE: usize = 65536;
 
-// The memory that is lent: work memory for the pair, and room for the longest output, of 949 bytes.
-pub const GREY_LENT: usize = 65536;
-
-pub const WORDS_LENT: usize = 8192;
-
-pub const OUTPUT_LENT: usize = 1024;
+// The bytes of a file as it counts: a longer one counts as empty.
+fn as_read(file: &[u8]) -> &[u8]
+    ensures { λ r. ⌜ now r ≡ asRead (now (file .entry)) ⌝ }
+{
+    if MAX_FILE < file.len() {
+        return &file[..0];
+    }
+    file
+}
 
 // All that `bracket` prints, into the beginning of `out`; the answer is the number of bytes.
 pub fn report(
@@ -30,8 +31,10 @@ pub fn report(
     words: &mut [u64; WORDS_LENT],
     out: &mut [u8; OUTPUT_LENT],
 ) -> usize
-    ensures length { λ r. ⌜ r ≡ length (bracketOutput (now (input .entry)) (now (first .entry)) (now (second .entry))) ⌝ }
-    ensures output { λ _. ⌜ now (out .exit) ≡ writtenOver (bracketOutput (now (input .entry)) (now (first .entry)) (now (second .entry))) (now (out .entry)) ⌝ }
+    ensures { λ r. ⌜
+        BracketCall (now (input .entry)) (now (first .entry)) (now (second .entry)) (now (grey .entry)) (now (grey .exit))
+        (now (words .entry)) (now (words .exit)) (now (out .entry)) (now (out .exit)) r
+        ⌝ }
 {
     let Settings::Given {
         s,

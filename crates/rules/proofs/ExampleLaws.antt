@@ -1,17 +1,20 @@
 -- The worked examples come out as document 01 prints them: each by computing the definitions.
-use mathlib.Core.Path.{_≡_, refl, ap, ap₂, _∙_}
+use mathlib.Core.Path.{_≡_, refl, ap, ap₂, fun-ext, _∙_}
 use mathlib.Core.List.{List, [], _∷_}
-use Prim.Native.Nat.{ℕ}
-use lib.IntN.{ℤ}
+use Prim.Native.Nat.{ℕ, zero, suc, _+_, _*_}
+use native.Mathlib.Omega.{arith}
+use lib.ListN.{getD}
 use Rattle.rules.specs.Sums.{sum, sumPixels}
 use Rattle.rules.specs.Frames.{Frame, frameOf}
-use Rattle.rules.specs.Greys.{grey, insert, sorted, secondSmallest, halved}
+use Rattle.rules.specs.Greys.{grey, greyFrame, insert, sorted, secondSmallest, halved}
 use Rattle.rules.specs.Thresholds.{atMost, reaches, least, threshold}
 use Rattle.rules.specs.Planes.{thresholdBit, distance, exclusionBit, bitsBy, within}
 use Rattle.rules.specs.Differences.{Planes, differ, differAt, difference}
-use Rattle.rules.specs.Levels.{still, wardOrder, byTolerance, planesBy, firstLeast, chosen, level, countAt, pair}
-use Rattle.rules.specs.Examples.{ExamplesHold, one, oneToFour, firstFrame, secondFrame, numbers, printedCase, aligned, asPrinted}
+use Rattle.rules.specs.Levels.{still, wardOrder, byTolerance, planesBy, Aligned, firstLeast, chosen, level, countAt, pair}
+use Rattle.rules.specs.Calls.{pairResult}
+use Rattle.rules.specs.Examples.{ExamplesHold, one, oneToFour, firstRows, secondRows, colourless, numbers, printedResult, aligned}
 use Rattle.rules.specs.TwoLevels.{TwoLevels}
+use Rattle.rules.specs.FlatFrames.{flat, flatPlate}
 
 -- the two planes once the threshold is known, so that it is worked out once and not for each pixel
 abbrev planesAt : ℕ → Frame → Planes
@@ -21,29 +24,48 @@ planes-known : (f : Frame) (t : ℕ) → threshold 4 4 50 f ≡ t → planesBy (
 unfolding planesBy
 planes-known f t e = λ i. planesAt (e i) f
 
-case-known : (a b : Frame) (s t : ℕ) → threshold 4 4 50 a ≡ s → threshold 4 4 50 b ≡ t
-    → level wardOrder (λ m. difference 4 4 (m .dx) (m .dy) (planesAt s a) (planesAt t b)) still [] ≡ aligned
-    → printedCase a b ≡ asPrinted
-unfolding pair countAt
+-- a raster with R = G = B has the grey rows that it was made of
+grey-same : (v : ℕ) → grey v v v ≡ v
+unfolding grey
+grey-same v = omega arith
+
+colourless-at : (l : List ℕ) (k : ℕ) → grey (getD (colourless l) (3 * k) 0) (getD (colourless l) (3 * k + 1) 0) (getD (colourless l) (3 * k + 2) 0) ≡ getD l k 0
+colourless-at [] k = grey-same 0
+colourless-at (v ∷ l) zero = grey-same v
+colourless-at (v ∷ l) (suc k) =
+    let a : 3 * suc k ≡ suc (suc (suc (3 * k))) = omega arith in
+    let b : 3 * suc k + 1 ≡ suc (suc (suc (3 * k + 1))) = omega arith in
+    let c : 3 * suc k + 2 ≡ suc (suc (suc (3 * k + 2))) = omega arith in
+    (λ i. grey (getD (colourless (v ∷ l)) (a i) 0) (getD (colourless (v ∷ l)) (b i) 0) (getD (colourless (v ∷ l)) (c i) 0)) ∙ colourless-at l k
+
+colourless-frame : (w : ℕ) (l : List ℕ) → greyFrame w (colourless l) ≡ frameOf w l
+unfolding greyFrame frameOf
+colourless-frame w l = fun-ext (λ x. fun-ext (λ y. colourless-at l (y * w + x)))
+
+case-known : (a b : List ℕ) (s t : ℕ) → threshold 4 4 50 (frameOf 4 a) ≡ s → threshold 4 4 50 (frameOf 4 b) ≡ t
+    → level wardOrder (λ m. difference 4 4 (m .dx) (m .dy) (planesAt s (frameOf 4 a)) (planesAt t (frameOf 4 b))) still [] ≡ aligned
+    → printedResult a b ≡ aligned
+unfolding pairResult pair countAt
 case-known a b s t d e r =
-    (λ i. numbers (level wardOrder (λ m. difference 4 4 (m .dx) (m .dy) (planes-known a s d i) (planes-known b t e i)) still []))
-    ∙ ap numbers r
+    ap₂ (λ (f g : Frame). pair wardOrder (byTolerance 0) 50 0 4 4 f g) (colourless-frame 4 a) (colourless-frame 4 b)
+    ∙ (λ i. level wardOrder (λ m. difference 4 4 (m .dx) (m .dy) (planes-known (frameOf 4 a) s d i) (planes-known (frameOf 4 b) t e i)) still [])
+    ∙ r
 
-printed : printedCase (firstFrame 10 20 90) (secondFrame 10 20 90) ≡ asPrinted
+pub printed : printedResult (firstRows 10 20 90) (secondRows 10 20 90) ≡ aligned
 unfolding sum sumPixels frameOf atMost reaches least threshold thresholdBit distance exclusionBit within differ differAt difference firstLeast chosen level
-printed = case-known (firstFrame 10 20 90) (secondFrame 10 20 90) 20 20 refl refl refl
+printed = case-known (firstRows 10 20 90) (secondRows 10 20 90) 20 20 refl refl refl
 
-reexposed : printedCase (firstFrame 3 4 200) (secondFrame 10 20 90) ≡ asPrinted
+reexposed : printedResult (firstRows 3 4 200) (secondRows 10 20 90) ≡ aligned
 unfolding sum sumPixels frameOf atMost reaches least threshold thresholdBit distance exclusionBit within differ differAt difference firstLeast chosen level
-reexposed = case-known (firstFrame 3 4 200) (secondFrame 10 20 90) 4 20 refl refl refl
+reexposed = case-known (firstRows 3 4 200) (secondRows 10 20 90) 4 20 refl refl refl
 
 pub examples-hold : ExamplesHold
 unfolding sum sumPixels frameOf grey insert sorted secondSmallest atMost reaches least threshold
 examples-hold =
     ap₂
-    (λ (p r : List ℤ).
+    (λ (p r : Aligned).
     one (grey 255 255 255) ∷ one (grey 255 0 0) ∷ one (grey 0 255 0) ∷ one (grey 0 0 255) ∷ one (secondSmallest 7 3 9 3)
-    ∷ one (threshold 4 1 50 oneToFour) ∷ one (threshold 4 1 17 oneToFour) ∷ one (threshold 4 1 83 oneToFour) ∷ p ∷ r ∷ [])
+    ∷ one (threshold 4 1 50 oneToFour) ∷ one (threshold 4 1 17 oneToFour) ∷ one (threshold 4 1 83 oneToFour) ∷ numbers p ∷ numbers r ∷ [])
     printed
     reexposed
 
@@ -51,3 +73,9 @@ pub two-levels : TwoLevels
 unfolding sum sumPixels frameOf insert sorted secondSmallest halved atMost reaches least threshold thresholdBit
     distance exclusionBit within differ differAt difference planesBy firstLeast chosen level countAt pair
 two-levels = refl
+
+-- the flat plate at grey 0; FlatLaws.antt and FlatRasterLaws.antt have it for every flat frame
+flat-computed : pair wardOrder (byTolerance 0) 50 2 16 16 (flat 0) (flat 0) ≡ flatPlate
+unfolding sum sumPixels insert sorted secondSmallest halved atMost reaches least threshold thresholdBit
+    distance exclusionBit within differ differAt difference planesBy firstLeast chosen level countAt pair
+flat-computed = refl

@@ -84,7 +84,7 @@ abbrev pub eachOnce : ℕ → List ℕ → Bool
 eachOnce zero ks = true
 eachOnce (suc n) ks = eqb (times n ks) 1 && eachOnce n ks
 
-both-true : (a b : Bool) → a && b ≡ true → (a ≡ true) × (b ≡ true)
+pub both-true : (a b : Bool) → a && b ≡ true → (a ≡ true) × (b ≡ true)
 both-true true b e = (refl, e)
 both-true false b e = absurd (true≢false (sym e))
 

@@ -1,5 +1,6 @@
 -- Laws of the definitions in specs/, for the proofs of the crates above.
 pub mod ExampleLaws
+pub mod FlatLaws
 pub mod SumLaws
 pub mod FilledLaws
 pub mod FrameLaws
@@ -13,3 +14,4 @@ pub mod LevelLaws
 pub mod SignedLaws
 pub mod PairLaws
 pub mod SeriesLaws
+pub mod FlatRasterLaws

@@ -6,7 +6,8 @@ use lib.IntN.{ℤ, pos, negsuc}
 use Rattle.rules.specs.Frames.{Frame, frameOf}
 use Rattle.rules.specs.Greys.{grey, secondSmallest}
 use Rattle.rules.specs.Thresholds.{threshold}
-use Rattle.rules.specs.Levels.{wardOrder, byTolerance, Aligned, pair}
+use Rattle.rules.specs.Levels.{wardOrder, Aligned}
+use Rattle.rules.specs.Calls.{toleranceSetup, pairResult}
 
 pub record Example : Type 0 where
   pub value : List ℤ
@@ -19,26 +20,29 @@ one n = pos n ∷ []
 abbrev pub oneToFour : Frame
 oneToFour = frameOf 4 (1 ∷ 2 ∷ 3 ∷ 4 ∷ [])
 
--- the frames that `bracket` prints the alignment of, by their three grey values: dark, next and bright
-abbrev pub firstFrame : ℕ → ℕ → ℕ → Frame
-firstFrame d n b = frameOf 4 (d ∷ d ∷ b ∷ b ∷ d ∷ d ∷ b ∷ b ∷ d ∷ d ∷ b ∷ b ∷ d ∷ n ∷ b ∷ b ∷ [])
+-- the grey rows of the frames that `bracket` prints the alignment of, by their three grey values: dark, next and bright
+abbrev pub firstRows : ℕ → ℕ → ℕ → List ℕ
+firstRows d n b = d ∷ d ∷ b ∷ b ∷ d ∷ d ∷ b ∷ b ∷ d ∷ d ∷ b ∷ b ∷ d ∷ n ∷ b ∷ b ∷ []
 
-abbrev pub secondFrame : ℕ → ℕ → ℕ → Frame
-secondFrame d n b = frameOf 4 (b ∷ d ∷ d ∷ b ∷ b ∷ d ∷ d ∷ b ∷ b ∷ d ∷ d ∷ b ∷ b ∷ d ∷ n ∷ b ∷ [])
+abbrev pub secondRows : ℕ → ℕ → ℕ → List ℕ
+secondRows d n b = b ∷ d ∷ d ∷ b ∷ b ∷ d ∷ d ∷ b ∷ b ∷ d ∷ d ∷ b ∷ b ∷ d ∷ n ∷ b ∷ []
 
--- s=0, T=0, P=50: dx, dy and the nine counts
+-- a raster "with R=G=B"
+abbrev pub colourless : List ℕ → List ℕ
+colourless [] = []
+colourless (v ∷ l) = v ∷ v ∷ v ∷ colourless l
+
+-- dx, dy and the counts of an answer
 abbrev pub numbers : Aligned → List ℤ
 numbers r = r .offset .dx ∷ r .offset .dy ∷ map pos (r .counts)
 
-abbrev pub printedCase : Frame → Frame → List ℤ
-printedCase a b = numbers (pair wardOrder (byTolerance 0) 50 0 4 4 a b)
+-- "For s=0, T=0, P=50": the pair call's result for two rasters of 4 by 4
+abbrev pub printedResult : List ℕ → List ℕ → Aligned
+printedResult a b = pairResult wardOrder (toleranceSetup 4 4 0 0 50) (colourless a) (colourless b)
 
 -- "offset -1 -1", "0: 0 0 0 5 7 6 8 10 8"
 abbrev pub aligned : Aligned
 aligned = record { offset = record { dx = negsuc 0; dy = negsuc 0 }; counts = 0 ∷ 0 ∷ 0 ∷ 5 ∷ 7 ∷ 6 ∷ 8 ∷ 10 ∷ 8 ∷ [] }
-
-abbrev pub asPrinted : List ℤ
-asPrinted = numbers aligned
 
 abbrev pub examples : List Example
 examples =
@@ -54,8 +58,8 @@ examples =
     ∷ record { value = one (threshold 4 1 17 oneToFour); printed = one 1 }
     ∷ record { value = one (threshold 4 1 83 oneToFour); printed = one 4 }
     -- the counts and offset printed, and "with 10, 20, 90 replaced by 3, 4, 200 in the first frame only"
-    ∷ record { value = printedCase (firstFrame 10 20 90) (secondFrame 10 20 90); printed = asPrinted }
-    ∷ record { value = printedCase (firstFrame 3 4 200) (secondFrame 10 20 90); printed = asPrinted }
+    ∷ record { value = numbers (printedResult (firstRows 10 20 90) (secondRows 10 20 90)); printed = numbers aligned }
+    ∷ record { value = numbers (printedResult (firstRows 3 4 200) (secondRows 10 20 90)); printed = numbers aligned }
     ∷ []
 
 -- every example of the table comes out as printed (proved in proofs/ExampleLaws.antt)

@@ -16,3 +16,4 @@ pub mod Series
 pub mod Calls
 pub mod Examples
 pub mod TwoLevels
+pub mod FlatFrames

@@ -54,15 +54,15 @@ packed-is preferred S F number offsets offsets′ counts counts′ z a b =
     let q = written-part number (9 * (S .halvings + 1) * (S .frames - 1)) (seriesAnswer preferred S F .counts) counts counts′ z (counts-size preferred S F) b in
     λ i. record { offsets = p i; counts = q i }
 
--- Two calls in work memory of the same lengths: for F, and for F′.
+-- Two calls: for F, and for F′.
 module _ (places : List ℕ) (arrangement : Arrangement places) (S : Settings) (F F′ : List ℕ) (offsets1 offsets2 out1 out2 : List ℤ) (counts1 counts2 made1 made2 : List ℕ)
     (grey1 grey1′ grey2 grey2′ words1 words1′ words2 words2′ : List ℕ) (answer1 answer2 : Written)
-    (e1 : length grey2 ≡ length grey1) (e2 : length words2 ≡ length words1) (bytes : Bytes F) (bytes′ : Bytes F′)
+    (bytes : Bytes F) (bytes′ : Bytes F′)
     (one : SeriesCall (arranged places) S F offsets1 out1 counts1 made1 grey1 grey1′ words1 words1′ answer1)
     (two : SeriesCall (arranged places) S F′ offsets2 out2 counts2 made2 grey2 grey2′ words2 words2′ answer2)
-    (g : Given S F F′ (seriesNumber S F offsets1 counts1 grey1 words1) offsets1 offsets2 counts1 counts2) where
+    (g : Given S F F′ offsets1 offsets2 counts1 counts2 grey1 grey2 words1 words2) where
   zero2 : seriesNumber S F′ offsets2 counts2 grey2 words2 ≡ 0
-  zero2 = rw (g .sizes, g .room1, g .room2, e1, e2) (g .accepted)
+  zero2 = rw (g .rasterBytes, g .offsetRoom, g .countRoom, g .greyMemory, g .wordMemory) (g .accepted)
 
   packed1 : packedAnswer S out1 made1 ≡ seriesAnswer (arranged places) S F
   packed1 = packed-is (arranged places) S F (seriesNumber S F offsets1 counts1 grey1 words1) offsets1 out1 counts1 made1 (g .accepted) (one .offsetsAre) (one .countsAre)

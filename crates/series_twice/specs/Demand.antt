@@ -8,6 +8,7 @@ use Rattle.rules.specs.declared.Written.{Written}
 use Rattle.rules.specs.Series.{Settings, Answer, seriesAnswer}
 use Rattle.rules.specs.declared.Offset.{Offset}
 use Rattle.rules.specs.Levels.{ruleOf}
+use Rattle.rules.specs.Calls.{seriesNumber}
 use Rattle.reexposure.specs.Reexposure.{Reexposed, Bounded, ByOrder}
 
 -- "Its packed answer is the offsets and counts that this call writes": of what the two buffers hold when it returns,
@@ -20,13 +21,16 @@ packedAnswer S offsets counts = record {
 
 -- "Let F be any accepted series of N frames with s halvings, reference r and tolerance 0. Let F' be any series with the same sizes and settings in
 -- which, within each frame, any two pixels compare in grey (darker, equal, brighter) as they do in F": F's refusal number is 0, its exclusion rule
--- sees grey values by their order alone, as tolerance 0 does, and F' is handed over with lent buffers of the same lengths.
-pub record Given (S : Settings) (F F′ : List ℕ) (number : ℕ) (offsets offsets′ : List ℤ) (counts counts′ : List ℕ) : Type 0 where
-  pub accepted : number ≡ 0
+-- sees grey values by their order alone, as tolerance 0 does, and F' is "handed over with lent buffers of the same lengths". Of each buffer F's stands
+-- before that of F'.
+pub record Given (S : Settings) (F F′ : List ℕ) (offsets offsets′ : List ℤ) (counts counts′ grey grey′ words words′ : List ℕ) : Type 0 where
+  pub accepted : seriesNumber S F offsets counts grey words ≡ 0
   pub byOrder : ByOrder (ruleOf (S .exclusion))
-  pub sizes : length F′ ≡ length F
-  pub room1 : length offsets′ ≡ length offsets
-  pub room2 : length counts′ ≡ length counts
+  pub rasterBytes : length F′ ≡ length F
+  pub offsetRoom : length offsets′ ≡ length offsets
+  pub countRoom : length counts′ ≡ length counts
+  pub greyMemory : length grey′ ≡ length grey
+  pub wordMemory : length words′ ≡ length words
   pub alike : Reexposed S F F′
 
 -- "Then the packed answers for F and for F' are the same, and both equal the pixel-by-pixel answer for F': every offset and all 9·(s+1)·(N−1)

@@ -60,20 +60,24 @@ leading-take p (suc k) (b ∷ l) = tested (p b) (leading-take p k l)
     tested true e = ap suc e ∙ sym (suc-min-suc k (leading p l))
     tested false e = sym (min-zero (suc k))
 
+abbrev inLine : ℕ → Bool
+inLine b = not (eqb b 10)
+
+-- what follows the byte 10 of the first line is not looked at
+pub settings-ended : (input : List ℕ) (m : ℕ) → leading inLine input < m → settingsOf (take m input) ≡ settingsOf input
+unfolding settingsOf lineOf
+settings-ended input m l =
+    let n : ℕ = leading inLine input in
+    let e : leading inLine (take m input) ≡ n = leading-take inLine m input ∙ omega arith in
+    ap (λ (k : ℕ). numbersOf (take k (take m input))) e ∙ ap numbersOf (take-take n m input (omega arith))
+
+-- nor is anything past 30 bytes
 pub settings-within : (input : List ℕ) → settingsOf (take 30 input) ≡ settingsOf input
 unfolding settingsOf lineOf
-settings-within input = ⊎-elim near far (order n 30)
+settings-within input = ⊎-elim (settings-ended input 30) far (order n 30)
   where
-    inLine : ℕ → Bool
-    inLine b = not (eqb b 10)
-
     n : ℕ
     n = leading inLine input
-
-    near : n < 30 → numbersOf (take (leading inLine (take 30 input)) (take 30 input)) ≡ numbersOf (take n input)
-    near l =
-        let e : leading inLine (take 30 input) ≡ n = leading-take inLine 30 input ∙ omega arith in
-        ap (λ (k : ℕ). numbersOf (take k (take 30 input))) e ∙ ap numbersOf (take-take n 30 input (omega arith))
 
     far : 30 ≤ n → numbersOf (take (leading inLine (take 30 input)) (take 30 input)) ≡ numbersOf (take n input)
     far l =

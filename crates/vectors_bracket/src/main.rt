@@ -1,8 +1,8 @@
 // Test vectors of what the program `bracket` prints.
 
-use report::GREY_LENT;
-use report::OUTPUT_LENT;
-use report::WORDS_LENT;
+use files_text::GREY_LENT;
+use files_text::OUTPUT_LENT;
+use files_text::WORDS_LENT;
 use vectors::buffers::fill_bytes;
 use vectors::contents::bytes_are;
 use vectors::contents::same_bytes;

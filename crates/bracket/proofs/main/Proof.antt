@@ -10,13 +10,13 @@ use Rattle.bracket.proofs.main.Tie as tie
 
 -- what is printed fits its buffer, since the buffer holds it
 fits : (c : tie.After-report) → c .report .result ≤ length (c .report .last .1 .1 .1 .1 .1 .0)
-fits c = output-fits _ _ _ _ _ _ (c .report .ensures)
+fits c = output-fits _ _ _ _ _ _ _ _ _ _ (c .report .ensures)
 
-slice-aggregate-read-all : tie.Need-slice-aggregate-read-all
-slice-aggregate-read-all c = search needs
+slice-aggregate-read-line : tie.Need-slice-aggregate-read-line
+slice-aggregate-read-line c = search needs
 
-read-all-requires : tie.Need-read-all-requires
-read-all-requires c κs = search needs
+read-line-requires : tie.Need-read-line-requires
+read-line-requires c κs = search needs
 
 slice-aggregate-read-file : tie.Need-slice-aggregate-read-file
 slice-aggregate-read-file c = search needs
@@ -73,8 +73,8 @@ pub main-spec : {M : Type 1} → statement M
 main-spec =
     tie.close
     (tie.spec
-    slice-aggregate-read-all
-    read-all-requires
+    slice-aggregate-read-line
+    read-line-requires
     slice-aggregate-read-file
     slice-aggregate-read-file-2
     read-file-requires

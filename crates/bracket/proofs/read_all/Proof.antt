@@ -1,13 +1,11 @@
 -- The invariant keeps the place within the buffer, whose length stays.
-use mathlib.Core.Path.{_≡_, sym}
-use mathlib.Core.List.{List}
-use Prim.Native.Nat.{ℕ, _≤_, _-_}
+use mathlib.Core.Path.{_≡_}
+use Prim.Native.Nat.{_≤_, _-_}
 use lib.ListN.{length}
-use lib.Seq.{length-take-le}
 use native.Mathlib.Omega.{arith}
 use borrow.Author.Needs.{needs}
 use borrow.Rule.Slice.PartMut.{same-len-mid}
-use Rattle.io.specs.Counts.{Counts}
+use Rattle.bracket.proofs.CountLaws.{counted}
 use Rattle.bracket.proofs.read_all.Statement.{statement}
 use Rattle.bracket.proofs.read_all.Tie as tie
 
@@ -16,9 +14,6 @@ Inv-loop fd buf₀ done₀ buf done = (done ≤ length buf₀) × (length buf �
 
 abbrev μ-loop : tie.MeasureT-loop
 μ-loop fd buf₀ done₀ buf done = length buf₀ - done
-
-counted : (n : ℕ) (l : List ℕ) → n ≤ length l → Counts n l
-counted n l h = (h, sym (length-take-le n l h))
 
 loop-holds : tie.Need-loop-holds Inv-loop μ-loop
 loop-holds c = search needs

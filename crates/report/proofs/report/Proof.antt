@@ -1,7 +1,7 @@
 -- The settings line decides; what is put at the beginning of the buffer is the whole output.
-use mathlib.Core.Path.{sym, _∙_}
+use mathlib.Core.Path.{refl, sym, _∙_}
 use borrow.Author.Needs.{needs}
-use Rattle.report.proofs.OutputLaws.{bad-line, good-line}
+use Rattle.report.proofs.OutputLaws.{bad-line, good-line, good-aligns}
 use Rattle.output_lines.proofs.WriteLaws.{wrote-one, wrote-all}
 use Rattle.report.proofs.report.Statement.{statement}
 use Rattle.report.proofs.report.Tie as tie
@@ -26,8 +26,9 @@ returns c =
     let b = c .before .before .before in
     let l = b .before .before in
     let a = l .before .before .before .before .args in
-    rw (bad-line (a .input .now) (a .first .now) (a .second .now) (sym (l .settings-of .ensures) ∙ b .enum-told .given .1))
-    (wrote-all _ _ _ _ (wrote-one _ _ _ _ _ (c .put .ensures)))
+    let whole = wrote-all _ _ _ _ (wrote-one _ _ _ _ _ (c .put .ensures)) in
+    let text = bad-line (a .input .now) (a .first .now) (a .second .now) (sym (l .settings-of .ensures) ∙ b .enum-told .given .1) in
+    record { answered = rw text (whole .0); outputIs = rw text (whole .1); memoryKept = λ e. (refl, refl) }
 
 as-read-requires : tie.Need-as-read-requires
 as-read-requires c κs = search needs
@@ -45,8 +46,15 @@ returns-2 c =
     let b = one .before .before in
     let l = b .before .before in
     let a = l .before .before .before .before .args in
-    rw (good-line (a .input .now) (a .first .now) (a .second .now) _ _ _ (sym (l .settings-of .ensures) ∙ b .s .given .1))
-    (wrote-all _ _ _ _ (rw (one .as-read .ensures, two .as-read2 .ensures) at (c .put-files .ensures)))
+    let given = sym (l .settings-of .ensures) ∙ b .s .given .1 in
+    let put = rw (one .as-read .ensures, two .as-read2 .ensures) at (c .put-files .ensures) in
+    let whole = wrote-all _ _ _ _ (put .wrote) in
+    let text = good-line (a .input .now) (a .first .now) (a .second .now) _ _ _ given in
+    record {
+      answered = rw text (whole .0);
+      outputIs = rw text (whole .1);
+      memoryKept = rw (good-aligns (a .input .now) (a .first .now) (a .second .now) _ _ _ given) (put .memoryKept);
+    }
 
 pub report-spec : {M : Type 1} → statement M
 report-spec =

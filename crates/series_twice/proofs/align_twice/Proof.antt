@@ -1,4 +1,4 @@
--- Demand 3, from what the two calls ensure. The rasters hold bytes, and the first call leaves the work memory's lengths.
+-- Each call ensures its own; demand 3 follows from both. The rasters hold bytes.
 use native.Mathlib.Omega.{arith}
 use borrow.Author.Needs.{needs}
 use Rattle.rules.specs.Calls.{toleranceSettings}
@@ -31,23 +31,45 @@ same-length-5 c = search needs
 same-length-6 : tie.Need-same-length-6
 same-length-6 c = search needs
 
+same-length-7 : tie.Need-same-length-7
+same-length-7 c = search needs
+
+same-length-8 : tie.Need-same-length-8
+same-length-8 c = search needs
+
+-- places on the way: after each call, where the rasters are known, and at the start
+abbrev twice : tie.After-slice-known12 → tie.After-series2
+twice c = c .before .before .before .before .before .before .before
+
+abbrev once : tie.After-series2 → tie.After-series
+once c = c .before .before .before .before .before .before .before .before .before .before .before .before
+
+abbrev rasters : tie.After-series → tie.After-shared-slice-known3
+rasters c = c .before .before .before .before .before .before .before .before .before .before .before
+
+abbrev begun : tie.After-shared-slice-known3 → tie.Start
+begun c = c .before .before .before
+
 returns : tie.Need-returns
 returns c =
-    let a = c .before .before .before .before .before .before .before .before .before .before .before .before .before .before .before .before .before .before .before .before
-    .before .before .before .before .before .before .before .before .before .before .before .args in
-    let one = c .before .before .before .before .before .before .before .before .before .before .before .before .before .before .before .before .before .before .before .series in
-    let two = c .before .before .before .before .before .before .before .series2 in
-    demanded _ ward-arrangement (toleranceSettings (a .w) (a .h) (a .s) (a .tolerance) (a .n) (a .r) (a .percentiles .now)) (a .rasters1 .now) (a .rasters2 .now)
-    (a .offsets1 .now) (a .offsets2 .now) (one .last .1 .1 .1 .1 .1 .1 .1 .1 .0) (two .last .1 .1 .1 .1 .1 .1 .1 .1 .0) (a .counts1 .now) (a .counts2 .now)
-    (one .last .1 .1 .1 .1 .1 .1 .1 .1 .1 .0) (two .last .1 .1 .1 .1 .1 .1 .1 .1 .1 .0)
-    (a .grey .now) (one .last .1 .1 .1 .1 .1 .1 .1 .1 .1 .1 .0) (one .last .1 .1 .1 .1 .1 .1 .1 .1 .1 .1 .0) (two .last .1 .1 .1 .1 .1 .1 .1 .1 .1 .1 .0) (a .words .now)
-    (one .last .1 .1 .1 .1 .1 .1 .1 .1 .1 .1 .1 .0) (one .last .1 .1 .1 .1 .1 .1 .1 .1 .1 .1 .1 .0) (two .last .1 .1 .1 .1 .1 .1 .1 .1 .1 .1 .1 .0)
-    (one .result) (two .result) (one .kept .1 .1 .1 .1 .1 .1 .1 .1 .1 .1 .0) (one .kept .1 .1 .1 .1 .1 .1 .1 .1 .1 .1 .1 .0)
-    (λ i. let l = c .before .before .before .before .before .before .before .before .before .before .before .before .before .before .before .before .before .before .before .before
-    .before .before .before .before .before .before .before .before .before .shared-slice-known2 .given i in omega arith)
-    (λ i. let l = c .before .before .before .before .before .before .before .before .before .before .before .before .before .before .before .before .before .before .before .before
-    .before .before .before .before .before .before .before .before .shared-slice-known3 .given i in omega arith)
-    (one .ensures) (two .ensures)
+    let two = twice c .series2 in
+    let one = once (twice c) .series in
+    let known = rasters (once (twice c)) in
+    let a = begun known .args in (
+      one .ensures,
+      (
+        two .ensures,
+        demanded _ ward-arrangement (toleranceSettings (a .w) (a .h) (a .s) (a .tolerance) (a .n) (a .r) (a .percentiles .now)) (a .rasters1 .now) (a .rasters2 .now)
+            (a .offsets1 .now) (a .offsets2 .now) (one .last .1 .1 .1 .1 .1 .1 .1 .1 .0) (two .last .1 .1 .1 .1 .1 .1 .1 .1 .0) (a .counts1 .now) (a .counts2 .now)
+            (one .last .1 .1 .1 .1 .1 .1 .1 .1 .1 .0) (two .last .1 .1 .1 .1 .1 .1 .1 .1 .1 .0)
+            (a .grey1 .now) (one .last .1 .1 .1 .1 .1 .1 .1 .1 .1 .1 .0) (a .grey2 .now) (two .last .1 .1 .1 .1 .1 .1 .1 .1 .1 .1 .0)
+            (a .words1 .now) (one .last .1 .1 .1 .1 .1 .1 .1 .1 .1 .1 .1 .0) (a .words2 .now) (two .last .1 .1 .1 .1 .1 .1 .1 .1 .1 .1 .1 .0)
+            (one .result) (two .result)
+            (λ i. let l = known .before .shared-slice-known2 .given i in omega arith)
+            (λ i. let l = known .shared-slice-known3 .given i in omega arith)
+            (one .ensures) (two .ensures),
+      ),
+    )
 
 pub align-twice-spec : {M : Type 1} → statement M
 align-twice-spec =
@@ -61,4 +83,6 @@ align-twice-spec =
     same-length-4
     same-length-5
     same-length-6
+    same-length-7
+    same-length-8
     returns)

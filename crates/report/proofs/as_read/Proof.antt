@@ -2,8 +2,8 @@
 use borrow.Author.Needs.{needs}
 use borrow.Author.Tests.{lt-leb, le-leb}
 use Rattle.report.specs.Output.{asRead}
-use Rattle.report.proofs.files.as_read.Statement.{statement}
-use Rattle.report.proofs.files.as_read.Tie as tie
+use Rattle.report.proofs.as_read.Statement.{statement}
+use Rattle.report.proofs.as_read.Tie as tie
 
 slice-aggregate-result : tie.Need-slice-aggregate-result
 slice-aggregate-result c = search needs

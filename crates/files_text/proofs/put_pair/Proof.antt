@@ -1,13 +1,15 @@
 -- The pair call's answer decides; the counts that it wrote stand at the beginning of their buffer.
 use mathlib.Core.Path.{_≡_, sym, _∙_}
 use native.Mathlib.Omega.{arith}
+use mathlib.Core.Bool.{false}
 use lib.ListN.{length}
 use borrow.Author.Needs.{needs}
 use Rattle.rules.specs.declared.Paired.{Paired}
 use Rattle.rules.specs.Answers.{paired}
-use Rattle.report.proofs.OutputLaws.{number, result, halvings, pair-refused-text, pair-moved-text}
-use Rattle.report.proofs.files.put_pair.Statement.{statement}
-use Rattle.report.proofs.files.put_pair.Tie as tie
+use Rattle.files_text.specs.PairTexts.{pairAligns}
+use Rattle.files_text.proofs.FilesTextLaws.{not-zero, number, result, halvings, pair-refused-text, pair-moved-text}
+use Rattle.files_text.proofs.put_pair.Statement.{statement}
+use Rattle.files_text.proofs.put_pair.Tie as tie
 
 abbrev start : tie.After-pair → tie.Start
 start c = c .before .before .before .before .before .before
@@ -32,6 +34,13 @@ answered c = sym (rw (grey-length c, words-length c) at (c .pair .ensures .answe
 -- the answer of an accepted pair
 moved : (c : tie.After-answer2) → expected (start (c .before .before .before)) ≡ Paired.Moved (c .answer2 .given .0 .0)
 moved c = answered (c .before .before .before) ∙ c .answer2 .given .1
+
+-- a refused pair leaves its work memory
+memory : (c : tie.After-pair)
+    → let a = start c .args in
+    pairAligns (a .size) (a .s) (a .tolerance) (a .percentile) (a .first .now) (a .second .now) ≡ false
+    → (c .pair .last .1 .1 .1 .1 .1 .1 .1 .1 .0 ≡ a .grey .now) × (c .pair .last .1 .1 .1 .1 .1 .1 .1 .1 .1 .0 ≡ a .words .now)
+memory c e = rw (grey-length c, words-length c) at (c .pair .ensures .memoryKept) (not-zero _ e)
 
 slice-aggregate-pair : tie.Need-slice-aggregate-pair
 slice-aggregate-pair c = search needs
@@ -62,8 +71,12 @@ returns : tie.Need-returns
 returns c =
     let b = c .before .before .before .before .before .before in
     let a = start b .args in
-    rw (pair-refused-text (a .size) (a .s) (a .tolerance) (a .percentile) (a .first .now) (a .second .now) _ (answered b ∙ c .before .before .before .answer .given .1))
-    (c .put-refused .ensures)
+    record {
+      wrote =
+          rw (pair-refused-text (a .size) (a .s) (a .tolerance) (a .percentile) (a .first .now) (a .second .now) _ (answered b ∙ c .before .before .before .answer .given .1))
+          (c .put-refused .ensures);
+      memoryKept = memory b;
+    }
 
 returns-2 : tie.Need-returns-2
 returns-2 c =
@@ -71,8 +84,12 @@ returns-2 c =
     let p = b .before .before .before in
     let a = start p .args in
     let d = rw (grey-length p, words-length p) at (p .pair .ensures .countsAre) in
-    rw (pair-moved-text (a .size) (a .s) (a .tolerance) (a .percentile) (a .first .now) (a .second .now) _ (moved b) _ _ d)
-    (c .put-aligned .ensures)
+    record {
+      wrote =
+          rw (pair-moved-text (a .size) (a .s) (a .tolerance) (a .percentile) (a .first .now) (a .second .now) _ (moved b) _ _ d)
+          (c .put-aligned .ensures);
+      memoryKept = memory p;
+    }
 
 pub put-pair-spec : {M : Type 1} → statement M
 put-pair-spec =

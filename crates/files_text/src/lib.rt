@@ -1,9 +1,5 @@
-// What is printed for two files.
+// The text that `bracket` prints for two files.
 
-use crate::GREY_LENT;
-use crate::MAX_FILE;
-use crate::OUTPUT_LENT;
-use crate::WORDS_LENT;
 use output_lines::put_aligned;
 use output_lines::put_refused;
 use ppm_read::Size;
@@ -12,22 +8,18 @@ use ppm_read::p6_raster;
 use ppm_read::p6_size;
 use rules::Paired;
 ghost use mathlib.Core.Path.{_≡_};
-ghost use Rattle.report.specs.Output.{asRead, filesText};
-ghost use Rattle.report.specs.PairTexts.{pairText, rasterOfSize};
-ghost use Rattle.output_lines.specs.Writes.{Wrote};
+ghost use Rattle.files_text.specs.FilesText.{filesText, filesAlign, Printed};
+ghost use Rattle.files_text.specs.PairTexts.{pairText, pairAligns, rasterOfSize};
+
+// The memory that is lent: work memory for the pair, and room for the longest output, of 949 bytes.
+pub const GREY_LENT: usize = 65536;
+
+pub const WORDS_LENT: usize = 8192;
+
+pub const OUTPUT_LENT: usize = 1024;
 
 // Counts for the most levels that there can be.
 const MAX_COUNTS: usize = 81;
-
-// The bytes of a file as it counts: a longer one counts as empty.
-pub fn as_read(file: &[u8]) -> &[u8]
-    ensures { λ r. ⌜ now r ≡ asRead (now (file .entry)) ⌝ }
-{
-    if MAX_FILE < file.len() {
-        return &file[..0];
-    }
-    file
-}
 
 // The second file's raster as the pair call gets it. A frame of another size than the first one's
 // counts as an input of the wrong length: no bytes.
@@ -55,7 +47,11 @@ fn put_pair(
     words: &mut [u64; WORDS_LENT],
     out: &mut [u8; OUTPUT_LENT],
 ) -> usize
-    ensures { λ r. ⌜ Wrote 0 (pairText size s tolerance percentile (now (first .entry)) (now (second .entry))) (now (out .entry)) r (now (out .exit)) ⌝ }
+    ensures { λ r. ⌜
+        Printed (pairAligns size s tolerance percentile (now (first .entry)) (now (second .entry)))
+        (pairText size s tolerance percentile (now (first .entry)) (now (second .entry)))
+        (now (grey .entry)) (now (grey .exit)) (now (words .entry)) (now (words .exit)) (now (out .entry)) r (now (out .exit))
+        ⌝ }
 {
     let mut counts = [0u32; MAX_COUNTS];
     let answer = pair::pair(
@@ -87,7 +83,11 @@ pub fn put_files(
     words: &mut [u64; WORDS_LENT],
     out: &mut [u8; OUTPUT_LENT],
 ) -> usize
-    ensures { λ r. ⌜ Wrote 0 (filesText s tolerance percentile (now (first .entry)) (now (second .entry))) (now (out .entry)) r (now (out .exit)) ⌝ }
+    ensures { λ r. ⌜
+        Printed (filesAlign s tolerance percentile (now (first .entry)) (now (second .entry)))
+        (filesText s tolerance percentile (now (first .entry)) (now (second .entry)))
+        (now (grey .entry)) (now (grey .exit)) (now (words .entry)) (now (words .exit)) (now (out .entry)) r (now (out .exit))
+        ⌝ }
 {
     let held1 = p6_size(first);
     let held2 = p6_size(second);

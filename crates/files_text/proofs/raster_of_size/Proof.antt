@@ -1,9 +1,9 @@
 -- The tests are the definition's.
 use borrow.Author.Needs.{needs}
 use borrow.Author.Tests.{eq-eqb, ne-eqb}
-use Rattle.report.specs.PairTexts.{rasterOfSize}
-use Rattle.report.proofs.files.raster_of_size.Statement.{statement}
-use Rattle.report.proofs.files.raster_of_size.Tie as tie
+use Rattle.files_text.specs.PairTexts.{rasterOfSize}
+use Rattle.files_text.proofs.raster_of_size.Statement.{statement}
+use Rattle.files_text.proofs.raster_of_size.Tie as tie
 
 slice-aggregate-result : tie.Need-slice-aggregate-result
 slice-aggregate-result c = search needs

@@ -1,11 +1,11 @@
 -- Each return is a law of the decision, from what the two companions have answered.
-use mathlib.Core.Path.{_≡_, sym, _∙_}
+use mathlib.Core.Path.{_≡_, refl, sym, _∙_}
 use borrow.Author.Needs.{needs}
 use Rattle.ppm_read.specs.declared.SizeRead.{SizeRead}
 use Rattle.ppm_read.specs.P6.{sizeAnswer}
-use Rattle.report.proofs.OutputLaws.{first-refused, second-refused, both-good}
-use Rattle.report.proofs.files.put_files.Statement.{statement}
-use Rattle.report.proofs.files.put_files.Tie as tie
+use Rattle.files_text.proofs.FilesTextLaws.{first-refused, second-refused, same-number, both-good}
+use Rattle.files_text.proofs.put_files.Statement.{statement}
+use Rattle.files_text.proofs.put_files.Tie as tie
 
 abbrev start : tie.After-p6-size → tie.Start
 start c = c .before .before .before
@@ -51,16 +51,24 @@ returns : tie.Need-returns
 returns c =
     let b = c .before .before .before .before .before .before in
     let a = start b .args in
-    rw (first-refused (a .s) (a .tolerance) (a .percentile) (a .first .now) (a .second .now) _ (sym (b .p6-size .ensures) ∙ c .before .before .before .held1 .given .1))
-    (c .put-refused .ensures)
+    record {
+      wrote =
+          rw (first-refused (a .s) (a .tolerance) (a .percentile) (a .first .now) (a .second .now) _ (sym (b .p6-size .ensures) ∙ c .before .before .before .held1 .given .1))
+          (c .put-refused .ensures);
+      memoryKept = λ e. (refl, refl);
+    }
 
 returns-2 : tie.Need-returns-2
 returns-2 c =
     let b = c .before .before .before .before .before .before in
     let a = start (b .before .before .before) .args in
-    rw (second-refused (a .s) (a .tolerance) (a .percentile) (a .first .now) (a .second .now) _ (sizeRead b) _
-    (sym (b .before .before .p6-size2 .ensures) ∙ c .before .before .before .held2 .given .1))
-    (c .put-refused2 .ensures)
+    record {
+      wrote =
+          rw (second-refused (a .s) (a .tolerance) (a .percentile) (a .first .now) (a .second .now) _ (sizeRead b) _
+          (sym (b .before .before .p6-size2 .ensures) ∙ c .before .before .before .held2 .given .1))
+          (c .put-refused2 .ensures);
+      memoryKept = λ e. (refl, refl);
+    }
 
 returns-3 : tie.Need-returns-3
 returns-3 c =
@@ -68,8 +76,12 @@ returns-3 c =
     let two = r .before .before .before in
     let b = two .before .before .before in
     let a = start (b .before .before .before) .args in
-    rw (both-good (a .s) (a .tolerance) (a .percentile) (a .first .now) (a .second .now) _ (sizeRead b) _ (sym (b .before .before .p6-size2 .ensures) ∙ two .held22 .given .1))
-    (rw (r .before .p6-raster .ensures, r .raster-of-size .ensures) at (c .put-pair .ensures))
+    let second = sym (b .before .before .p6-size2 .ensures) ∙ two .held22 .given .1 in
+    let put = rw (r .before .p6-raster .ensures, r .raster-of-size .ensures) at (c .put-pair .ensures) in
+    record {
+      wrote = rw (both-good (a .s) (a .tolerance) (a .percentile) (a .first .now) (a .second .now) _ (sizeRead b) _ second) (put .wrote);
+      memoryKept = rw (same-number (a .s) (a .tolerance) (a .percentile) (a .first .now) (a .second .now) _ (sizeRead b) _ second) (put .memoryKept);
+    }
 
 pub put-files-spec : {M : Type 1} → statement M
 put-files-spec =

@@ -1,0 +1,2 @@
+-- A number of bytes within a buffer.
+pub mod CountLaws

@@ -1,0 +1,2 @@
+-- Laws of the text for two files.
+pub mod FilesTextLaws

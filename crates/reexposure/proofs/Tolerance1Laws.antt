@@ -1,0 +1,110 @@
+-- At tolerance 1 a re-exposed pair answers differently: its comparisons by a test over all pixels, its answers by computing the definitions.
+use mathlib.Core.Path.{_≡_, refl, sym, ap, _∙_}
+use mathlib.Core.Bool.{Bool, true, false, _&&_, true≢false}
+use mathlib.Core.List.{List, [], _∷_}
+use mathlib.Core.Logic.{⊎-elim}
+use Prim.Native.Nat.{ℕ, zero, suc, _<_, _≤_, compare, Ordering, Ordering·lt, Ordering·eq, Ordering·gt}
+use native.Mathlib.Omega.{arith}
+use lib.Dec.{ltb}
+use lib.ListN.{length, getD}
+use borrow.Author.Tests.{ltb-true}
+use Rattle.rules.specs.Sums.{sum, sumPixels}
+use Rattle.rules.specs.Frames.{frameOf}
+use Rattle.rules.specs.Greys.{grey, greyFrame}
+use Rattle.rules.specs.Thresholds.{atMost, reaches, least, threshold}
+use Rattle.rules.specs.Planes.{thresholdBit, distance, exclusionBit, within}
+use Rattle.rules.specs.Bitmaps.{rowWords}
+use Rattle.rules.specs.Differences.{differ, differAt, difference}
+use Rattle.rules.specs.Refusals.{badSide, badSize, badHalvings, tooSmall, badTolerance, badFrames, badReference, badPercentile, someBadPercentile, badPercentiles, levelPixels, seriesRefusal}
+use Rattle.rules.specs.Levels.{byTolerance, planesBy, firstLeast, chosen, level, countAt, pair}
+use Rattle.rules.specs.Series.{greyOf, pairOf, sumFrom, frameOffset, offsetList, countList, answerOf, answerBy, seriesAnswer}
+use Rattle.rules.proofs.SumLaws.{order}
+use Rattle.rules.proofs.LevelLaws.{both-true}
+use Rattle.reexposure.specs.Reexposure.{Bytes, ByOrder}
+use Rattle.reexposure.specs.Tolerance1.{atTolerance1, taken, takenAgain, DiffersAtTolerance1, OneNotByOrder}
+
+-- a test for all numbers below n, and what it shows
+abbrev every : ℕ → (ℕ → Bool) → Bool
+every zero p = true
+every (suc n) p = p n && every n p
+
+every-at : (n : ℕ) (p : ℕ → Bool) → every n p ≡ true → (k : ℕ) → k < n → p k ≡ true
+every-at zero p e k l = absurd (omega arith)
+every-at (suc n) p e k l =
+    let t = both-true (p n) (every n p) e in
+    ⊎-elim (λ (m : k < n). every-at n p (t .1) k m) (λ (m : n ≤ k). let d : k ≡ n = omega arith in ap p d ∙ t .0) (order k n)
+
+abbrev same : Ordering → Ordering → Bool
+same Ordering·lt Ordering·lt = true
+same Ordering·lt Ordering·eq = false
+same Ordering·lt Ordering·gt = false
+same Ordering·eq Ordering·lt = false
+same Ordering·eq Ordering·eq = true
+same Ordering·eq Ordering·gt = false
+same Ordering·gt Ordering·lt = false
+same Ordering·gt Ordering·eq = false
+same Ordering·gt Ordering·gt = true
+
+same-is : (o p : Ordering) → same o p ≡ true → o ≡ p
+same-is Ordering·lt Ordering·lt e = refl
+same-is Ordering·lt Ordering·eq e = absurd (true≢false (sym e))
+same-is Ordering·lt Ordering·gt e = absurd (true≢false (sym e))
+same-is Ordering·eq Ordering·lt e = absurd (true≢false (sym e))
+same-is Ordering·eq Ordering·eq e = refl
+same-is Ordering·eq Ordering·gt e = absurd (true≢false (sym e))
+same-is Ordering·gt Ordering·lt e = absurd (true≢false (sym e))
+same-is Ordering·gt Ordering·eq e = absurd (true≢false (sym e))
+same-is Ordering·gt Ordering·gt e = refl
+
+-- pixels (x,y) and (u,v) of frame k compare alike in both exposures
+abbrev alikeAt : ℕ → ℕ → ℕ → ℕ → ℕ → Bool
+alikeAt k x y u v =
+    same (compare (greyOf atTolerance1 taken k x y) (greyOf atTolerance1 taken k u v))
+    (compare (greyOf atTolerance1 takenAgain k x y) (greyOf atTolerance1 takenAgain k u v))
+
+-- (x,y) and every pixel; every pixel of frame k
+abbrev alikeTo : ℕ → ℕ → ℕ → Bool
+alikeTo k x y = every 4 (λ u. every 4 (alikeAt k x y u))
+
+abbrev alikeIn : ℕ → Bool
+alikeIn k = every 4 (λ x. every 4 (alikeTo k x))
+
+all-alike : every 2 alikeIn ≡ true
+unfolding greyOf greyFrame grey
+all-alike = refl
+
+-- every number of a list is below 256
+abbrev allBytes : List ℕ → Bool
+allBytes [] = true
+allBytes (b ∷ l) = ltb b 256 && allBytes l
+
+are-bytes : (l : List ℕ) → allBytes l ≡ true → Bytes l
+are-bytes [] e i = omega arith
+are-bytes (b ∷ l) e zero = ltb-true b 256 (both-true (ltb b 256) (allBytes l) e .0)
+are-bytes (b ∷ l) e (suc i) = are-bytes l (both-true (ltb b 256) (allBytes l) e .1) i
+
+pub differs-at-tolerance-1 : DiffersAtTolerance1
+unfolding sum sumPixels grey greyFrame atMost reaches least threshold thresholdBit distance exclusionBit within differ differAt difference
+    rowWords badSide badSize badHalvings tooSmall badTolerance badFrames badReference badPercentile someBadPercentile badPercentiles levelPixels seriesRefusal
+    planesBy firstLeast chosen level countAt pair greyOf pairOf sumFrom frameOffset offsetList countList answerOf answerBy seriesAnswer
+differs-at-tolerance-1 = record {
+  accepted = refl;
+  accepted′ = refl;
+  bytes = are-bytes taken refl;
+  bytes′ = are-bytes takenAgain refl;
+  reexposed = record {
+    alike = λ k i x y u v a b c d.
+        let frame = every-at 2 alikeIn all-alike k i in
+        let pixel = every-at 4 (alikeTo k x) (every-at 4 (λ z. every 4 (alikeTo k z)) frame x a) y b in
+        same-is _ _ (every-at 4 (alikeAt k x y u) (every-at 4 (λ z. every 4 (alikeAt k x y z)) pixel u c) v d);
+  };
+  answer = refl;
+  answer′ = refl;
+}
+
+pub one-not-by-order : OneNotByOrder
+unfolding exclusionBit distance
+one-not-by-order b = zero-not-one (b .alike 50 (omega arith) (omega arith) (λ p. 4) (λ p. 20) 3 10 (λ p some most. refl))
+  where
+    zero-not-one : _≡_ {A = ℕ} 0 1 → ⊥
+    zero-not-one e = omega arith

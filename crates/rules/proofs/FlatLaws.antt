@@ -1,0 +1,115 @@
+-- Flat frames: every pixel is left out, so every count is 0, and the first candidate of each level is taken.
+use mathlib.Core.Path.{_≡_, refl, sym, ap, ap₂, fun-ext, _∙_}
+use mathlib.Core.Bool.{true, false, _&&_, not}
+use mathlib.Core.List.{List, [], _∷_, _++_}
+use mathlib.Core.Logic.{⊎-elim}
+use Prim.Native.Nat.{ℕ, zero, suc, _+_, _*_, _-_, _/_, _^_, _≤_, _<_, min, max}
+use native.Mathlib.Nat.{mul-pos, mul-comm, mul-le-mul-right}
+use native.Mathlib.Omega.{arith}
+use lib.Dec.{leb, ltb}
+use lib.IntN.{ℤ, pos, negsuc, negℤ, _+ℤ_, _-ℤ_}
+use lib.Pow.{pow-pos}
+use borrow.Author.Tests.{le-leb, lt-leb, le-ltb}
+use Rattle.rules.specs.Limits.{maxGrey}
+use Rattle.rules.specs.Sums.{gate, oneIf}
+use Rattle.rules.specs.Frames.{Frame, SameFrame}
+use Rattle.rules.specs.Greys.{secondSmallest, halved}
+use Rattle.rules.specs.Thresholds.{atMost, reaches, least, threshold}
+use Rattle.rules.specs.Planes.{distance, exclusionBit, within}
+use Rattle.rules.specs.Differences.{Planes, differ, differAt, difference}
+use Rattle.rules.specs.declared.Offset.{Offset}
+use Rattle.rules.specs.Levels.{still, added, wardOrder, byTolerance, planesBy, firstLeast, chosen, Aligned, level, countAt, pair}
+use Rattle.rules.specs.FlatFrames.{flat, zeros, farthest}
+use Rattle.rules.proofs.SumLaws.{gate-zero, pixels-zero, pixels-all}
+use Rattle.rules.proofs.ThresholdLaws.{least-is}
+use Rattle.rules.proofs.GreyLaws.{second-formula}
+
+within-zero : (n : ℕ) (z : ℤ) (f : ℕ → ℕ) → ((k : ℕ) → f k ≡ 0) → within n z f ≡ 0
+unfolding within
+within-zero n (pos k) f e = ap (gate (ltb k n)) (e k) ∙ gate-zero (ltb k n)
+within-zero n (negsuc k) f e = refl
+
+flat-halved : (v : ℕ) → halved (flat v) ≡ flat v
+unfolding halved
+flat-halved v = fun-ext (λ x. fun-ext (λ y. second-formula v v v v ∙ omega arith))
+
+-- no darker value reaches the percentile, and the frame's own does
+flat-threshold : (w h percentile v : ℕ) → 0 < w → 0 < h → 1 ≤ percentile → percentile ≤ 99 → v ≤ maxGrey → threshold w h percentile (flat v) ≡ v
+unfolding threshold reaches atMost
+flat-threshold w h percentile v wide high some most l = sym (least-is maxGrey v (reaches w h percentile (flat v)) l fail pass)
+  where
+    pixels : 0 < w * h
+    pixels = mul-pos wide high
+
+    fail : (u : ℕ) → u < v → reaches w h percentile (flat v) u ≡ false
+    fail u k =
+        let a : atMost w h (flat v) u ≡ 0 = pixels-zero w h (λ x y. oneIf (leb v u)) (λ x y i j. ap oneIf (lt-leb v u k)) in
+        let b : 0 < percentile * (w * h) = mul-pos some pixels in
+        lt-leb (percentile * (w * h)) (100 * atMost w h (flat v) u) (omega arith)
+
+    pass : v < maxGrey → reaches w h percentile (flat v) v ≡ true
+    pass k =
+        let a : atMost w h (flat v) v ≡ h * w = pixels-all w h (λ x y. oneIf (leb v v)) (λ x y i j. ap oneIf (le-leb v v (omega arith))) in
+        let b : percentile * (w * h) ≤ 100 * (w * h) = mul-le-mul-right {m = percentile} {n = 100} (w * h) (omega arith) in
+        let c = mul-comm w h in
+        le-leb (percentile * (w * h)) (100 * atMost w h (flat v) v) (omega arith)
+
+-- a pixel at its frame's threshold differs from none
+module _ (tolerance percentile w h v : ℕ) (some : 1 ≤ percentile) (most : percentile ≤ 99) (byte : v ≤ maxGrey) where
+  abbrev planes : Planes
+  planes = planesBy (byTolerance tolerance) percentile w h (flat v)
+
+  left-out : (x y : ℕ) → x < w → y < h → planes .exclusion x y ≡ 0
+  unfolding planesBy exclusionBit distance
+  left-out x y k l =
+      let t : threshold w h percentile (flat v) ≡ v = flat-threshold w h percentile v (omega arith) (omega arith) some most byte in
+      rw t (ap oneIf (le-ltb tolerance (max v v - min v v) (omega arith)))
+
+  none-differs : (m : Offset) (x y : ℕ) → x < w → y < h → differAt w h (m .dx) (m .dy) planes planes x y ≡ 0
+  unfolding differAt differ
+  none-differs m x y k l = rw (left-out x y k l) (within-zero w (pos x -ℤ m .dx) (λ u. within h (pos y -ℤ m .dy) (λ z. 0)) (λ u. within-zero h (pos y -ℤ m .dy) (λ z. 0) (λ z. refl)))
+
+  no-count : countAt (byTolerance tolerance) percentile w h (flat v) (flat v) ≡ (λ m. 0)
+  unfolding countAt difference
+  no-count = fun-ext (λ m. pixels-zero w h (differAt w h (m .dx) (m .dy) planes planes) (none-differs m))
+
+-- with every count 0 a level takes the first candidate
+first-taken : (centre : Offset) (coarser : List ℕ)
+    → level wardOrder (λ m. 0) centre coarser ≡ record { offset = added centre (record { dx = negsuc 0; dy = negsuc 0 }); counts = coarser ++ zeros 9 }
+unfolding level chosen firstLeast
+first-taken centre coarser = refl
+
+-- twice −n and a step further
+step-further : (n : ℕ) → negℤ (pos n) +ℤ negℤ (pos n) +ℤ negsuc 0 ≡ negℤ (pos (n + n + 1))
+step-further zero = refl
+step-further (suc n) =
+    let a : suc (suc (n + n) + 0) ≡ n + n + 2 = omega arith in
+    let b : suc (n + n + 2) ≡ suc n + suc n + 1 = omega arith in
+    ap negsuc a ∙ ap (λ (k : ℕ). negℤ (pos k)) b
+
+more-zeros : (m n : ℕ) → zeros m ++ zeros n ≡ zeros (m + n)
+more-zeros zero n = let e : n ≡ 0 + n = omega arith in ap zeros e
+more-zeros (suc m) n = let e : suc (m + n) ≡ suc m + n = omega arith in ap (λ (l : List ℕ). 0 ∷ l) (more-zeros m n) ∙ ap zeros e
+
+next-level : (s : ℕ) → level wardOrder (λ m. 0) (added (farthest s .offset) (farthest s .offset)) (farthest s .counts) ≡ farthest (suc s)
+next-level s =
+    let n : ℕ = 2 ^ suc s - 1 in
+    let e : n + n + 1 ≡ 2 ^ suc (suc s) - 1 = omega (arith, pow-pos s) in
+    let z : ℤ = negℤ (pos n) in
+    let d : z +ℤ z +ℤ negsuc 0 ≡ negℤ (pos (2 ^ suc (suc s) - 1)) = step-further n ∙ ap (λ (k : ℕ). negℤ (pos k)) e in
+    let m : 9 * (s + 1) + 9 ≡ 9 * (suc s + 1) = omega arith in
+    let c : zeros (9 * (s + 1)) ++ zeros 9 ≡ zeros (9 * (suc s + 1)) = more-zeros (9 * (s + 1)) 9 ∙ ap zeros m in
+    first-taken (added (farthest s .offset) (farthest s .offset)) (farthest s .counts) ∙ (λ i. record { offset = record { dx = d i; dy = d i }; counts = c i })
+
+pub flat-pair : (tolerance percentile v : ℕ) → 1 ≤ percentile → percentile ≤ 99 → v ≤ maxGrey
+    → (s w h : ℕ) → pair wardOrder (byTolerance tolerance) percentile s w h (flat v) (flat v) ≡ farthest s
+unfolding pair
+flat-pair tolerance percentile v some most byte zero w h =
+    ap (λ (c : Offset → ℕ). level wardOrder c still []) (no-count tolerance percentile w h v some most byte) ∙ first-taken still []
+flat-pair tolerance percentile v some most byte (suc s) w h =
+    ap₂
+    (λ (c : Offset → ℕ) (coarse : Aligned). level wardOrder c (added (coarse .offset) (coarse .offset)) (coarse .counts))
+    (no-count tolerance percentile w h v some most byte)
+    (ap (λ (f : Frame). pair wardOrder (byTolerance tolerance) percentile s (w / 2) (h / 2) f f) (flat-halved v)
+    ∙ flat-pair tolerance percentile v some most byte s (w / 2) (h / 2))
+    ∙ next-level s
