@@ -151,9 +151,9 @@ pub room-kept : (S : Setup) (n : ℕ) (ps : List ℕ) (rasters pairs counts grey
     → PairsOk S n ps rasters pairs counts grey words → PairsOk S n ps rasters pairs′ counts′ grey′ words′
 room-kept S n ps rasters pairs counts grey words pairs′ counts′ grey′ words′ a b c d o = rw (a, b, c, d) o
 
-pub frames-at : (S : Setup) (k rasters pairs counts grey words first second : ℕ) → Room S k rasters pairs counts grey words
-    → first ≡ placeOf k (S .w * S .h) → second ≡ placeOf (k + 1) (S .w * S .h) → Frames first second S grey
-frames-at S k rasters pairs counts grey words first second o a b = record {
+pub frames-at : (S : Setup) (k rasters pairs counts grey words i j first second : ℕ) → Room S k rasters pairs counts grey words
+    → first ≡ placeOf i (S .w * S .h) → second ≡ placeOf j (S .w * S .h) → Frames first second S grey
+frames-at S k rasters pairs counts grey words i j first second o a b = record {
   wide = o .shape .wide;
   width = o .shape .size .width;
   high = o .shape .high;
@@ -161,14 +161,14 @@ frames-at S k rasters pairs counts grey words first second o a b = record {
   halvings = o .shape .halvings;
   least = o .least;
   most = o .most;
-  one = let p = place-fits k (S .w * S .h) in omega arith;
-  two = let p = place-fits (k + 1) (S .w * S .h) in omega arith;
+  one = let p = place-fits i (S .w * S .h) in omega arith;
+  two = let p = place-fits j (S .w * S .h) in omega arith;
   room = o .greys;
 }
 
--- both places lie in the lent memory
-pub place-room : (w h s k grey : ℕ) → greyNeeded s w h ≤ grey → placeOf k (w * h) + w * h ≤ grey
-place-room w h s k grey l = let a = level-pixels-at s w h in let b = place-fits k (w * h) in omega arith
+-- a frame's place lies in the lent memory
+pub place-room : (w h s k grey place : ℕ) → greyNeeded s w h ≤ grey → place ≡ placeOf k (w * h) → place + w * h ≤ grey
+place-room w h s k grey place l e = let a = level-pixels-at s w h in let b = place-fits k (w * h) in omega arith
 
 -- the rest of a list from a place on
 pub part-room : (rasters : List ℕ) (from n : ℕ) → from + n ≤ length rasters → n ≤ length (take (length rasters - from) (drop from rasters))

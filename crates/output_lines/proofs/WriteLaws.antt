@@ -1,13 +1,15 @@
 -- Texts put one after another.
 use mathlib.Core.Path.{_≡_, refl, sym, ap, subst, _∙_}
 use mathlib.Core.List.{List, [], _++_, append-nil}
-use Prim.Native.Nat.{ℕ, _+_, _≤_}
+use Prim.Native.Nat.{ℕ, _+_, _-_, _≤_}
 use native.Mathlib.Nat.{zero-add, add-zero}
 use native.Mathlib.Omega.{arith}
 use lib.ListN.{length, take, drop, length-append, take-append-drop}
+use borrow.Rule.Slice.PartAt.{part-to-end}
 use Rattle.rules.specs.Frames.{writtenOver}
 use Rattle.text.specs.Puts.{Put}
 use Rattle.text.proofs.PutLaws.{put-length, put-then, put-written}
+use Rattle.output_lines.specs.Lines.{levelsText}
 use Rattle.output_lines.specs.Writes.{Wrote}
 
 pub wrote-none : (at : ℕ) (before : List ℕ) → at ≤ length before → Wrote at [] before at before
@@ -36,6 +38,11 @@ wrote-more at t u before next mid last after a b = record {
 pub wrote-then : (at : ℕ) (t u before : List ℕ) (next : ℕ) (mid : List ℕ) (last : ℕ) (after : List ℕ)
     → Wrote at t before next mid → (last ≡ next + length u) × Put next u mid after → Wrote at (t ++ u) before last after
 wrote-then at t u before next mid last after a p = wrote-more at t u before next mid last after a (wrote-one next u mid last after p)
+
+-- the lines of the counts lent from the tenth on
+pub rest-lent : (at s : ℕ) (counts before : List ℕ) (next : ℕ) (after : List ℕ) → Wrote at (levelsText s (take (length counts - 9) (drop 9 counts))) before next after
+    → Wrote at (levelsText s (drop 9 counts)) before next after
+rest-lent at s counts before next after w = rw (part-to-end counts 9) at w
 
 -- a whole output at the beginning of its buffer
 pub wrote-all : (text before : List ℕ) (next : ℕ) (after : List ℕ) → Wrote 0 text before next after

@@ -26,9 +26,11 @@ module _ (w h n : ℕ) (words : List ℕ) (e : n ≡ rowWords w * h) where
   pub parts-clean : Clean w h (drop (5 * (rowWords w * h)) words) → Clean w h (lentFrom (5 * n) words)
   parts-clean clean = rw (lent-is (5 * n) words, e) clean
 
-  pub parts-count : (dy : ℤ) → SFits w32 dy
-      → difference w h (pos 0) (toZ w32 (ofZ w32 dy)) (planesOf w h words (lentFrom n words)) (planesOf w h (lentFrom (4 * n) words) (lentFrom (5 * n) words))
+  pub parts-count : (dy : ℤ) (r : ℕ) → SFits w32 dy
+      → r ≡ difference w h (pos 0) (toZ w32 (ofZ w32 dy)) (planesOf w h words (lentFrom n words)) (planesOf w h (lentFrom (4 * n) words) (lentFrom (5 * n) words))
+      → r
       ≡ difference w h (pos 0) dy (planesOf w h words (drop (rowWords w * h) words)) (planesOf w h (drop (4 * (rowWords w * h)) words) (drop (5 * (rowWords w * h)) words))
-  parts-count dy fits =
-      (λ i. difference w h (pos 0) (toZ-ofZ fits i) (planesOf w h words (lent-is n words i)) (planesOf w h (lent-is (4 * n) words i) (lent-is (5 * n) words i)))
+  parts-count dy r fits c =
+      c
+      ∙ (λ i. difference w h (pos 0) (toZ-ofZ fits i) (planesOf w h words (lent-is n words i)) (planesOf w h (lent-is (4 * n) words i) (lent-is (5 * n) words i)))
       ∙ ap (λ (m : ℕ). difference w h (pos 0) dy (planesOf w h words (drop m words)) (planesOf w h (drop (4 * m) words) (drop (5 * m) words))) e

@@ -193,6 +193,27 @@ add-place t c =
     let g = b .good in
     omega arith
 
+returns-2 : (t : ℕ) → align-frames-lts.Need-returns-2 (claims t) (align-frames-at t) align-frames.Post
+returns-2 t c =
+    let b = c .before .before .before .before .before .before .before .before .before .before .before .before .before .before .before .before .before .before .before .before
+    .before .before .before .before .before .before .before .before .before .before .before in
+    let a = b .args in
+    let f = b .pre .1 .0 in
+    let h1 = c .before .before .before .before .before .before .before .before .before .before .before .before .before .before .before .before .before .before .before .before
+    .before .before .before .before .before .halve-within in
+    let h2 = c .before .before .before .before .before .before .before .before .before .before .before .before .before .before .before .before .before .before .before .before .before .halve-within2 in
+    let u = c .before .before .before .before .before .before .before .before .before .before .before .before .before .before .before .align-frames in
+    let two = c .before .before .before .before .before .before .before .before .doubled in
+    let z = c .before .before .before .before .align-level2 in
+    let k = frames-room (a .first) (a .second) (a .setup) (length (a .grey .now)) (b .pre .1 .0) in
+    let e = h1 .ensures .len in
+    let d = h2 .ensures .len in
+    let some : 0 < a .setup .s = (let l = c .before .before .before .before .before .before .before .before .before .before .before .before .before .before .before .before .before
+    .before .before .before .before .before .before .before .before .before .before .if1 .left in omega arith) in
+    aligned-more (arranged (a .order .now)) (a .setup) (a .first) (a .second) (a .grey .now) (h1 .last .0) (h2 .last .0) some (f .one) (f .two) (h1 .ensures) (h2 .ensures)
+    (a .at) (u .last .0) (a .counts .now) (u .last .1 .1 .1 .1 .1 .0) (z .last .1 .1 .1 .1 .1 .1 .0) (a .at + 9 * a .setup .s) (u .result) (two .result) (z .result)
+    (omega arith) (u .ensures) (two .ensures) refl (z .ensures)
+
 align-level-requires-2 : (t : ℕ) → align-frames-lts.Need-align-level-requires-2 (claims t) (align-frames-at t) align-frames.Post
 align-level-requires-2 t c κs =
     let b = c .before .before .before .before .before .before .before .before .before .before .before .before .before .before .before .before .before .before .before .before
@@ -242,27 +263,6 @@ same-length-5 t c = c .before .before .before .before .align-level2 .kept .1 .1 
 same-length-6 : (t : ℕ) → align-frames-lts.Need-same-length-6 (claims t) (align-frames-at t) align-frames.Post
 same-length-6 t c = c .before .before .before .before .align-level2 .kept .1 .1 .1 .1 .1 .1 .0
     ∙ c .before .before .before .before .before .before .before .before .before .before .before .before .before .before .before .align-frames .kept .1 .1 .1 .1 .1 .0
-
-returns-2 : (t : ℕ) → align-frames-lts.Need-returns-2 (claims t) (align-frames-at t) align-frames.Post
-returns-2 t c =
-    let b = c .before .before .before .before .before .before .before .before .before .before .before .before .before .before .before .before .before .before .before .before
-    .before .before .before .before .before .before .before .before .before .before .before in
-    let a = b .args in
-    let f = b .pre .1 .0 in
-    let h1 = c .before .before .before .before .before .before .before .before .before .before .before .before .before .before .before .before .before .before .before .before
-    .before .before .before .before .before .halve-within in
-    let h2 = c .before .before .before .before .before .before .before .before .before .before .before .before .before .before .before .before .before .before .before .before .before .halve-within2 in
-    let u = c .before .before .before .before .before .before .before .before .before .before .before .before .before .before .before .align-frames in
-    let two = c .before .before .before .before .before .before .before .before .doubled in
-    let z = c .before .before .before .before .align-level2 in
-    let k = frames-room (a .first) (a .second) (a .setup) (length (a .grey .now)) (b .pre .1 .0) in
-    let e = h1 .ensures .len in
-    let d = h2 .ensures .len in
-    let some : 0 < a .setup .s = (let l = c .before .before .before .before .before .before .before .before .before .before .before .before .before .before .before .before .before
-    .before .before .before .before .before .before .before .before .before .before .if1 .left in omega arith) in
-    aligned-more (arranged (a .order .now)) (a .setup) (a .first) (a .second) (a .grey .now) (h1 .last .0) (h2 .last .0) some (f .one) (f .two) (h1 .ensures) (h2 .ensures)
-    (a .at) (u .last .0) (a .counts .now) (u .last .1 .1 .1 .1 .1 .0) (z .last .1 .1 .1 .1 .1 .1 .0) (a .at + 9 * a .setup .s) (u .result) (two .result) (z .result)
-    (omega arith) (u .ensures) (two .ensures) refl (z .ensures)
 
 pub +align-frames-spec : {M : Type 1} → statement M
 +align-frames-spec = close μ-align-frames λ t. align-frames-lts.spec (claims t) (align-frames-at t) align-frames.Post

@@ -1,10 +1,11 @@
 -- A refused call answers its number and touches nothing; an accepted one has the sizes that the core requires, and the flat row is the frame.
-use mathlib.Core.Path.{refl, sym, _∙_}
+use mathlib.Core.Path.{_≡_, refl, sym, _∙_}
 use native.Mathlib.Omega.{arith}
 use lib.ListN.{length}
 use borrow.Author.Needs.{needs}
 use Rattle.rules.specs.Greys.{greyFrame}
 use Rattle.rules.proofs.FrameLaws.{frame-written, flat-frame}
+use Rattle.rules.specs.Refusals.{greyRefusal}
 use Rattle.rules.specs.Accepted.{GreyOk}
 use Rattle.rules.proofs.RefusalLaws.{grey-ok, written-refused, buffer-refused}
 use Rattle.grey.specs.GreyPlaces.{greyAt}
@@ -14,9 +15,14 @@ use Rattle.grey.proofs.to_grey.Tie as tie
 grey-refusal-requires : tie.Need-grey-refusal-requires
 grey-refusal-requires c κs = search needs
 
+-- the number asked for is the call's
+number-is : (c : tie.After-grey-refusal)
+    → let a = c .before .before .before .args in c .grey-refusal .result ≡ greyRefusal (a .w) (a .h) (length (a .raster .now)) (length (a .grey .now))
+number-is c = c .grey-refusal .ensures
+
 returns : tie.Need-returns
 returns c =
-    rw (← c .before .grey-refusal .ensures)
+    rw (← number-is (c .before))
     (record { answered = written-refused _ (c .if1 .taken); filled = buffer-refused _ _ _ (c .if1 .taken) })
 
 -- what an accepted call knows of its sizes
@@ -24,7 +30,7 @@ accepted : (c : tie.Else1)
     → let a = c .before .before .before .before .args in GreyOk (a .w) (a .h) (length (a .raster .now)) (length (a .grey .now))
 accepted c =
     let a = c .before .before .before .before .args in
-    grey-ok (a .w) (a .h) (length (a .raster .now)) (length (a .grey .now)) (sym (c .before .grey-refusal .ensures) ∙ c .if1 .left)
+    grey-ok (a .w) (a .h) (length (a .raster .now)) (length (a .grey .now)) (sym (number-is (c .before)) ∙ c .if1 .left)
 
 mul-convert : tie.Need-mul-convert
 mul-convert c = omega (arith, accepted c)
@@ -41,7 +47,7 @@ returns-2 c =
     let done = c .before .before in
     let taken = done .before .before in
     let a = taken .before .before .before .before .args in
-    let e = sym (taken .before .grey-refusal .ensures) ∙ taken .if1 .left in
+    let e = sym (number-is (taken .before)) ∙ taken .if1 .left in
     rw e (record {
       answered = refl;
       filled = frame-written

@@ -46,9 +46,10 @@ convert-requires c κs =
     let a = s .args in
     let o = s .pre .0 in
     let area = a .setup .w * a .setup .h in
-    let e = c .before .before .place2 .ensures in
-    let p = place-room (a .setup .w) (a .setup .h) (a .setup .s) (a .k + 1) (length (a .grey .now)) (o .greys) in
-    (part-room (a .rasters .now) ((a .k + 1) * (3 * area)) (3 * area) (o .raster), omega arith)
+    let two = c .before .before .place2 in (
+      part-room (a .rasters .now) ((a .k + 1) * (3 * area)) (3 * area) (o .raster),
+      place-room (a .setup .w) (a .setup .h) (a .setup .s) _ (length (a .grey .now)) (two .result) (o .greys) (two .ensures),
+    )
 
 cast-at : tie.Need-cast-at
 cast-at c = search needs
@@ -69,9 +70,9 @@ align-frames-requires c κs =
     let o = s .pre .0 in
     let one = c .before .before .before .before .before .before .before .before .before .place in
     let two = c .before .before .before .before .before .before .before .before .place2 in
-    let f = frames-at (a .setup) (a .k) (length (a .rasters .now)) (length (a .pairs .now)) (length (a .counts .now)) (length (a .grey .now)) (length (a .words .now))
+    let f = frames-at (a .setup) (a .k) (length (a .rasters .now)) (length (a .pairs .now)) (length (a .counts .now)) (length (a .grey .now)) (length (a .words .now)) _ _
     (one .result) (two .result) o (one .ensures) (two .ensures) in
-    (rw (c .before .before .before .before .before .convert .ensures .len) f, (o .bitmaps, (o .places, (s .pre .1 .1 .0, s .pre .1 .1 .1))))
+    (rw (c .before .before .before .before .before .convert .ensures .len) f, (o .bitmaps, (let p = o .places in omega arith, (s .pre .1 .1 .0, s .pre .1 .1 .1))))
 
 put-offset-requires : tie.Need-put-offset-requires
 put-offset-requires c κs = c .before .before .before .before .before .before .before .before .before .before .before .before .before .before .before .before .before .before

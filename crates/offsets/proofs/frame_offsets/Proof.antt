@@ -57,7 +57,7 @@ module _ (c : tie.At-loop Inv-loop μ-loop) where
   written after put = put-next frames lent (c .loop .offsets) (c .loop .k) (c .loop .inv .2) (omega arith) (c .loop .m) after (c .loop .inv .1) put
 
 put-offset-requires : tie.Need-put-offset-requires Inv-loop μ-loop
-put-offset-requires c κs = ready (c .before .before)
+put-offset-requires c κs = let r = ready (c .before .before) in omega arith
 
 next-offset-requires : tie.Need-next-offset-requires Inv-loop μ-loop
 next-offset-requires c κs =
@@ -83,7 +83,7 @@ loop-again c =
     )
 
 put-offset-requires-2 : tie.Need-put-offset-requires-2 Inv-loop μ-loop
-put-offset-requires-2 c κs = ready (c .before .before)
+put-offset-requires-2 c κs = let r = ready (c .before .before) in omega arith
 
 returns : tie.Need-returns Inv-loop μ-loop
 returns c =

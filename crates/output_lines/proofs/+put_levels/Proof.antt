@@ -4,10 +4,10 @@ use Prim.Native.Nat.{ℕ, _-_, _<_}
 use native.Mathlib.Omega.{arith}
 use lib.ListN.{length, drop, length-append, length-drop}
 use borrow.Author.Needs.{needs}
-use borrow.Rule.Slice.PartAt.{part-to-end}
 use Rattle.output_lines.specs.Lines.{levelText, levelsText}
-use Rattle.output_lines.proofs.TextLaws.{levels-one, levels-more, levels-room}
-use Rattle.output_lines.proofs.WriteLaws.{wrote-more}
+use Rattle.output_lines.specs.Writes.{Wrote}
+use Rattle.output_lines.proofs.TextLaws.{levels-one, levels-more, levels-room, rest-room}
+use Rattle.output_lines.proofs.WriteLaws.{wrote-more, rest-lent}
 use borrow.Fn.Kinds.{In}
 use borrow.Fn.PlainCycle.{Measures, is, falls, and}
 use Rattle.output_lines.proofs.put_levels.Reads as put-levels
@@ -27,6 +27,21 @@ put-levels-at t =
 abbrev put-levels-below : ℕ → In 2 put-levels-kinds.ps
 put-levels-below t =
     and 2 put-levels-kinds.ps (falls 2 put-levels-kinds.ps _<_ μ-put-levels t) put-levels.Pre
+
+-- the lines after the first are those of the counts after its nine
+rest-wrote : (t : ℕ) (c : put-levels-lts.After-put-levels (
+  put-level-reads.Asked,
+  put-level-reads.Learnt,
+  put-levels-below t,
+  put-levels.Post,
+) (put-levels-at t) put-levels.Post)
+    → let a = c .before .before .before .before .before .before .before .before .before .before .args in
+    let first = c .before .before .before .before .before .before .put-level in
+    Wrote (first .result) (levelsText (a .s - 1) (drop 9 (a .counts .now))) (first .last .0) (c .put-levels .result) (c .put-levels .last .0)
+rest-wrote t c =
+    let a = c .before .before .before .before .before .before .before .before .before .before .args in
+    let first = c .before .before .before .before .before .before .put-level in
+    rest-lent (first .result) (a .s - 1) (a .counts .now) (first .last .0) (c .put-levels .result) (c .put-levels .last .0) (c .put-levels .ensures)
 
 put-levels-put-level-requires : (t : ℕ) → put-levels-lts.Need-put-level-requires (
   put-level-reads.Asked,
@@ -101,8 +116,11 @@ put-levels-put-levels-requires t c κs =
     let left = c .before .before .if1 .left in
     let w = c .before .before .before .before .before .put-level .ensures in
     let d = length-drop 9 (a .counts .now) in
-    let e = ap length (levels-more (a .s) (a .counts .now) left) ∙ length-append (levelText (a .s) (a .counts .now)) (levelsText (a .s - 1) (drop 9 (a .counts .now))) in
-    rw (part-to-end (a .counts .now) 9) (omega (arith, b .pre .0, left), (omega (arith, b .pre .1 .0, left), omega (arith, b .pre .1 .1)))
+    let e = ap length (levels-more (a .s) (a .counts .now) left) ∙ length-append (levelText (a .s) (a .counts .now)) (levelsText (a .s - 1) (drop 9 (a .counts .now))) in (
+      omega (arith, b .pre .0, left),
+      rest-room (c .before .before .before .before .before .put-level .result) (a .s - 1) (a .counts .now) _
+          (omega (arith, b .pre .1 .0, left)) (omega (arith, b .pre .1 .1)),
+    )
 
 put-levels-same-length-2 : (t : ℕ) → put-levels-lts.Need-same-length-2 (
   put-level-reads.Asked,
@@ -122,7 +140,7 @@ put-levels-returns-2 t c =
     let a = c .before .before .before .before .before .before .before .before .before .before .before .before .args in
     rw (levels-more (a .s) (a .counts .now) (c .before .before .before .before .before .if1 .left))
     (wrote-more _ _ _ _ _ _ _ _ (c .before .before .before .before .before .before .before .before .put-level .ensures)
-    (rw (part-to-end (a .counts .now) 9) at (c .before .before .put-levels .ensures)))
+    (rest-wrote t (c .before .before)))
 
 pub +put-levels-spec : {M : Type 1} → statement M
 +put-levels-spec = close μ-put-levels λ t. put-levels-lts.spec (

@@ -49,9 +49,9 @@ returns-2 c =
     let f = c .before .before .before .before .pack-frame in
     rw e (record {
       answered = refl;
-      thresholdsAre = packed-plane (a .w) (a .h) _ _ (a .thresholds .now) _ (threshold-plane (a .threshold) (a .w) (a .grey .now)) (k .room1) (f .ensures .0);
+      thresholdsAre = packed-plane (a .w) (a .h) _ _ (a .thresholds .now) (f .last .1 .1 .1 .1 .1 .1 .0) (threshold-plane (a .threshold) (a .w) (a .grey .now)) (k .room1) (f .ensures .0);
       exclusionsAre =
-          packed-plane (a .w) (a .h) _ _ (a .exclusions .now) _ (exclusion-plane (a .threshold) (a .tolerance) (a .w) (a .grey .now) bytes ∙ ends) (k .room2) (f .ensures .1);
+          packed-plane (a .w) (a .h) _ _ (a .exclusions .now) (f .last .1 .1 .1 .1 .1 .1 .1 .0) (exclusion-plane (a .threshold) (a .tolerance) (a .w) (a .grey .now) bytes ∙ ends) (k .room2) (f .ensures .1);
     })
 
 pub bitmaps-spec : {M : Type 1} → statement M

@@ -1,13 +1,26 @@
 -- Each part is lent as far as the words reach, which is the list from its place on; the count against the slid frame is that at the offset.
-use mathlib.Core.Path.{_∙_}
+use mathlib.Core.Path.{_≡_, _∙_}
 use native.Mathlib.Omega.{arith}
 use lib.ListN.{length-take, length-drop}
 use Rattle.rules.proofs.SignedLaws.{small-fits}
+use Rattle.slid_counts.specs.SlidPlaces.{wordsCount}
 use Rattle.slid_counts.proofs.SlidPartLaws.{parts-clean, parts-count}
 use Rattle.slid_counts.proofs.SlidCountLaws.{slid-count}
 use borrow.Author.Needs.{needs}
 use Rattle.slid_counts.proofs.count_slid.Statement.{statement}
 use Rattle.slid_counts.proofs.count_slid.Tie as tie
+
+-- the count of the parts, each as it is lent
+counted : (c : tie.After-overlap-frame)
+    → let a = c .before .before .before .before .before .before .before .args in
+    c .overlap-frame .result ≡ wordsCount (a .w) (a .h) (a .words .now) (a .m)
+counted c =
+    let s = c .before .before .before .before .before .before .before in
+    let a = s .args in
+    let b = c .before .before .before .before .before .bitmap-words in
+    parts-count (a .w) (a .h) (b .result) (a .words .now) (b .ensures) (a .m .dy) (c .overlap-frame .result) (small-fits (a .m .dy) (let near = s .pre .1 .1 .0 .dy in omega arith))
+    (c .overlap-frame .ensures)
+    ∙ slid-count (a .w) (a .h) (a .words .now) (a .m) (s .pre .1 .1 .1 .0)
 
 bitmap-words-requires : tie.Need-bitmap-words-requires
 bitmap-words-requires c κs = search needs
@@ -76,13 +89,7 @@ overlap-frame-requires c κs =
     )
 
 returns : tie.Need-returns
-returns c =
-    let s = c .before .before .before .before .before .before .before in
-    let a = s .args in
-    let b = c .before .before .before .before .before .bitmap-words in
-    c .overlap-frame .ensures
-    ∙ parts-count (a .w) (a .h) (b .result) (a .words .now) (b .ensures) (a .m .dy) (small-fits (a .m .dy) (let near = s .pre .1 .1 .0 .dy in omega arith))
-    ∙ slid-count (a .w) (a .h) (a .words .now) (a .m) (s .pre .1 .1 .1 .0)
+returns c = counted c
 
 pub count-slid-spec : {M : Type 1} → statement M
 count-slid-spec =

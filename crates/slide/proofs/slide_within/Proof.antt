@@ -24,13 +24,17 @@ sized c =
     let v = c .move-by .ensures in
     placed (c .move-by .result .n) (a .w) (a .h) (a .from) (a .to) (length (a .words .now)) (v .1 .1 .row ∙ ap rowWords (v .0)) (s .pre .1 .1 .0) (s .pre .1 .1 .1)
 
+-- the move, counted from the bias
+right : (c : tie.After-biased) → c .biased .result ≡ biasOf (c .before .before .args .dx)
+right c = c .biased .ensures ∙ ap biasOf (toZ-ofZ (c .before .before .fits .dx))
+
 biased-requires : tie.Need-biased-requires
 biased-requires c κs = search needs
 
 move-by-requires : tie.Need-move-by-requires
 move-by-requires c κs =
     let s = c .before .before in
-    (s .pre .0, rw (c .biased .ensures) (bias-lt _ (search needs)))
+    (s .pre .0, rw (right c) (bias-lt (s .args .dx) (s .fits .dx)))
 
 slide-interiors-requires : tie.Need-slide-interiors-requires
 slide-interiors-requires c κs = (c .before .move-by .ensures .1 .1, sized (c .before))
@@ -62,7 +66,7 @@ returns c =
     let e : move .move-by .result .n ≡ rowWords (a .w) = v .1 .1 .row ∙ ap rowWords (v .0) in
     rw e at
     (frame-slid (a .words .now) (mid .last .0) (late .last .0) (after .last .0) (a .from) (move .move-by .result) (a .w) (a .h) (a .to) (a .dx) (s .fits .dx) (v .1 .1)
-    (v .0) (v .1 .0 ∙ move .before .biased .ensures ∙ ap biasOf (toZ-ofZ (s .fits .dx))) (sized move .0)
+    (v .0) (v .1 .0 ∙ right (move .before)) (sized move .0)
     (mid .ensures) (late .ensures) (after .ensures))
 
 pub slide-within-spec : {M : Type 1} → statement M

@@ -1,9 +1,8 @@
 -- Each return rewrites with the tests on the way there; the shortest side is a power of two, since the shift loses no bit.
 use mathlib.Core.Path.{sym, _∙_}
 use borrow.Author.Tests.{lt-ltb, le-ltb}
-use Rattle.rules.specs.Refusals.{badHalvings, tooSmall}
-use Rattle.rules.proofs.RefusalLaws.{orElse-none}
-use Rattle.work_memory.proofs.MemoryLaws.{shortest-side}
+use Rattle.rules.specs.Refusals.{badHalvings}
+use Rattle.work_memory.proofs.MemoryLaws.{small-side}
 use borrow.Author.Needs.{needs}
 use Rattle.work_memory.proofs.shape_refusal.Statement.{statement}
 use Rattle.work_memory.proofs.shape_refusal.Tie as tie
@@ -25,12 +24,12 @@ lowest-requires : tie.Need-lowest-requires
 lowest-requires c κs = search needs
 
 returns-3 : tie.Need-returns-3
-unfolding badHalvings tooSmall
+unfolding badHalvings
 returns-3 c =
     let e = c .before in
     let b = e .before .before in
     simp (sym (b .bad-size .ensures) ∙ e .before .if1 .left, le-ltb _ _ (e .if2 .left))
-    (simp (orElse-none, shortest-side (b .before .args .s) (e .if2 .left)) at (c .lowest .ensures))
+    (small-side (b .before .args .w) (b .before .args .h) (b .before .args .s) (c .lowest .result) (e .if2 .left) (c .lowest .ensures))
 
 pub shape-refusal-spec : {M : Type 1} → statement M
 shape-refusal-spec =

@@ -32,7 +32,7 @@ frame-offsets-requires c κs =
     let o = s .pre .0 in
     let run = c .before .before .before .before .before .before .before .before .before .align-pairs in
     let size = run .kept .1 .1 .1 .1 .0 in (
-      (o .reference, o .frames .1),
+      (let l = o .reference in omega arith, o .frames .1),
       (
         let f = o .frames in omega arith,
         (o .room1, pairs-small (a .order .now) (a .setup) (a .n - 1) (a .percentiles .now) (a .rasters .now) _ (run .last .1 .1 .1 .1 .0) (o .shape .halvings) (run .ensures .offsets)),
