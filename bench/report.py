@@ -13,7 +13,7 @@ import plot
 
 LIBRARY, CAREFUL, OPENCV, MEMCPY = "library", "careful C", "OpenCV", "memcpy"
 NAMES = (LIBRARY, CAREFUL, OPENCV, MEMCPY)
-ASKED = ((640, 480), (1920, 1080), (4096, 4096))  # the sizes that the order names
+ASKED = ((640, 480), (1920, 1080), (4096, 4096))  # the sizes of our goals
 LARGE = 1920 * 1080  # goals against OpenCV and memcpy hold from here on
 COUNTED = 640 * 480  # pixels of the frames whose instructions are counted
 WINDOW = 65 * 65  # moves of the window of single difference calls
@@ -217,7 +217,7 @@ def told(ratios):
 
 
 def goal_careful(results):
-    """1.0 at the sizes that the order names, 1.3 wherever it was measured."""
+    """1.0 at the sizes of our goals, 1.3 wherever it was measured."""
     every = [(results.ratio(j, LIBRARY, CAREFUL), j) for j in results.times]
     asked = [(r, j) for r, j in every if j in results.pairs() and (j.w, j.h) in ASKED]
     asked.sort(key=lambda item: pixels(item[1]))
@@ -228,7 +228,7 @@ def goal_careful(results):
 
 
 def goal_opencv(results, large):
-    text = "at least 4 times faster than OpenCV at 1920×1080 and above"
+    text = "at least 4 times faster than OpenCV on a scene of 1920×1080 and above"
     kept = [(results.ratio(j, OPENCV, LIBRARY), j) for j in large]
     if any(r is None for r, _ in kept):
         return Goal(text, "OpenCV is not installed", "not measured")

@@ -1,5 +1,5 @@
 -- Laws of the blink row: what an accepted call knows, and what the companion's answer tells.
-use mathlib.Core.Path.{_≡_, refl}
+use mathlib.Core.Path.{_≡_, refl, ap₂}
 use mathlib.Core.Bool.{Bool, _||_, not, cond}
 use mathlib.Core.List.{List, []}
 use Prim.Native.Nat.{ℕ, zero, suc, _+_, _*_, _-_, _≤_, _<_}
@@ -12,8 +12,9 @@ use Rattle.rules.specs.Refusals.{_when_, _orElse_, badSize, wrongLength, raster
 use Rattle.rules.specs.Accepted.{SizeOk}
 use Rattle.rules.proofs.RefusalLaws.{size-ok, when-no, orElse-no, or-no, length-is}
 use Rattle.rules.proofs.FrameLaws.{row-fits}
+use Rattle.rules.specs.Parts.{partOr, Place, placeFrom}
 use Rattle.blink.specs.declared.Row.{Row}
-use Rattle.blink.specs.Blink.{blinkRefusal, rowStart, rasterRow, blinkPart, blinkRow, rowAt, blinkAnswer}
+use Rattle.blink.specs.Blink.{blinkRefusal, rowStart, rasterRow, blinkRow, BlinkCall, rowAt, blinkAnswer}
 
 -- What an accepted call knows.
 pub record BlinkOk (w h y first second : ℕ) : Type 0 where
@@ -52,22 +53,34 @@ at-start : (n start v : ℕ) → rowAt n start ≡ Row.At v → (n ≡ 0) × (v 
 at-start zero start v e = (refl, cc)
 at-start (suc n) start v e = absurd (let z : _≡_ {A = ℕ} 0 1 = cc in omega arith)
 
-empty-part : (n start m : ℕ) (part : List ℕ) → rowAt n start ≡ Row.Refused m → [] ≡ blinkPart n part
+empty-part : (n start m : ℕ) (part : List ℕ) → rowAt n start ≡ Row.Refused m → [] ≡ partOr n part
 empty-part zero start m part e = absurd (let z : _≡_ {A = ℕ} 0 1 = cc in omega arith)
 empty-part (suc n) start m part e = refl
 
--- What the companion's answer tells of the part.
-module _ (w h y : ℕ) (other : Bool) (first second : List ℕ) where
-  pub part-refused : (m : ℕ) → blinkAnswer w h y first second ≡ Row.Refused m → [] ≡ blinkRow w h y other first second
-  part-refused m e =
-      empty-part (blinkRefusal w h y (length first) (length second)) (rowStart w y) m (rasterRow w y (cond other second first)) e
+not-refused : (n start m : ℕ) → n ≡ 0 → rowAt n start ≡ Row.Refused m → ⊥
+not-refused zero start m z e = let d : _≡_ {A = ℕ} 0 1 = cc in omega arith
+not-refused (suc n) start m z e = omega arith
 
-  pub started : (v : ℕ) → blinkAnswer w h y first second ≡ Row.At v
-      → (blinkRefusal w h y (length first) (length second) ≡ 0) × (v ≡ rowStart w y)
+-- What the companion's answer tells of the part.
+module _ (w h y : ℕ) (other : Bool) (first : List ℕ) (place1 : Place) (second : List ℕ) (place2 : Place) where
+  number : ℕ
+  number = blinkRefusal w h y (length first) (length second)
+
+  -- an empty part, wherever it lies
+  pub part-refused : (m : ℕ) (place : Place) → blinkAnswer w h y first second ≡ Row.Refused m → BlinkCall w h y other first place1 second place2 [] place
+  unfolding number
+  part-refused m place e = record {
+    holds = empty-part number (rowStart w y) m (rasterRow w y (cond other second first)) e;
+    lies = λ z. absurd (not-refused number (rowStart w y) m z e);
+  }
+
+  pub started : (v : ℕ) → blinkAnswer w h y first second ≡ Row.At v → (blinkRefusal w h y (length first) (length second) ≡ 0) × (v ≡ rowStart w y)
   started v e = at-start (blinkRefusal w h y (length first) (length second)) (rowStart w y) v e
 
-  pub part-is : (v : ℕ) (chosen : List ℕ) → blinkAnswer w h y first second ≡ Row.At v → chosen ≡ cond other second first
-      → take (v + 3 * w - v) (drop v chosen) ≡ blinkRow w h y other first second
-  part-is v chosen e d =
-      let s = started v e in
-      rw (s .0, s .1, add-sub-cancel-left (rowStart w y) (3 * w), d)
+  -- the part of the chosen raster
+  pub part-is : (v : ℕ) (chosen : List ℕ) (place : Place) → blinkAnswer w h y first second ≡ Row.At v → chosen ≡ cond other second first → place ≡ cond other place2 place1
+      → BlinkCall w h y other first place1 second place2 (take (v + 3 * w - v) (drop v chosen)) (placeFrom v place)
+  part-is v chosen place e d p = record {
+    holds = let s = started v e in rw (s .0, s .1, add-sub-cancel-left (rowStart w y) (3 * w), d);
+    lies = λ z. ap₂ placeFrom (started v e .1) p;
+  }

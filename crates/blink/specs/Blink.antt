@@ -1,10 +1,12 @@
 -- Blink row: "row y of the first or the second lent raster, as chosen, handed back as part of that raster".
+use mathlib.Core.Path.{_≡_}
 use mathlib.Core.Bool.{Bool, _||_, not, cond}
-use mathlib.Core.List.{List, []}
+use mathlib.Core.List.{List}
 use Prim.Native.Nat.{ℕ, zero, suc, _*_}
 use lib.Dec.{ltb}
 use lib.ListN.{length, take, drop}
 use Rattle.rules.specs.Refusals.{_when_, _orElse_, badSize, wrongLength, rasterLength}
+use Rattle.rules.specs.Parts.{partOr, Place, placeFrom}
 use Rattle.blink.specs.declared.Row.{Row}
 
 -- 14. "A blink row's y is not below h." 9 looks at both rasters, also at the one not chosen.
@@ -22,14 +24,15 @@ rowStart w y = y * (3 * w)
 abbrev pub rasterRow : ℕ → ℕ → List ℕ → List ℕ
 rasterRow w y raster = take (3 * w) (drop (rowStart w y) raster)
 
--- "an empty part when refused"
-abbrev pub blinkPart : ℕ → List ℕ → List ℕ
-blinkPart zero part = part
-blinkPart (suc n) part = []
-
+-- "handed back as part of that raster", "an empty part when refused"
 abbrev pub blinkRow : ℕ → ℕ → ℕ → Bool → List ℕ → List ℕ → List ℕ
 blinkRow w h y other first second =
-    blinkPart (blinkRefusal w h y (length first) (length second)) (rasterRow w y (cond other second first))
+    partOr (blinkRefusal w h y (length first) (length second)) (rasterRow w y (cond other second first))
+
+-- what the call leaves for two rasters that lie at places: what the part holds, and that it lies in the chosen one, where the row begins
+pub record BlinkCall (w h y : ℕ) (other : Bool) (first : List ℕ) (place1 : Place) (second : List ℕ) (place2 : Place) (part : List ℕ) (partPlace : Place) : Type 0 where
+  pub holds : part ≡ blinkRow w h y other first second
+  pub lies : blinkRefusal w h y (length first) (length second) ≡ 0 → partPlace ≡ placeFrom (rowStart w y) (cond other place2 place1)
 
 abbrev pub rowAt : ℕ → ℕ → Row
 rowAt zero start = Row.At start

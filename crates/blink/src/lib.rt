@@ -1,7 +1,8 @@
 // The blink row (document 01's term): one row of one of two rasters, for a display that shows them in turn. The offered calls.
 
 ghost use mathlib.Core.Path.{_≡_};
-ghost use Rattle.blink.specs.Blink.{blinkRefusal, blinkRow, blinkAnswer};
+ghost use denote.Ref.{ptr};
+ghost use Rattle.blink.specs.Blink.{blinkRefusal, blinkAnswer, BlinkCall};
 use refusals::Faults;
 use refusals::NONE;
 use refusals::bad_size;
@@ -47,7 +48,9 @@ pub fn blink_row<'a>(
     first: &'a [u8],
     second: &'a [u8],
 ) -> &'a [u8]
-    ensures { λ r. ⌜ now r ≡ blinkRow w h y other (now (first .entry)) (now (second .entry)) ⌝ }
+    ensures { λ r. ⌜
+        BlinkCall w h y other (now (first .entry)) (ptr (first .entry)) (now (second .entry)) (ptr (second .entry)) (now r) (ptr r)
+        ⌝ }
 {
     let Row::At(from) = blink_start(w, h, y, first, second) else {
         return &first[..0];

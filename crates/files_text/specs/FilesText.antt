@@ -1,6 +1,5 @@
 -- The text that `bracket` prints for two files: the number that refuses them, or their alignment.
-use mathlib.Core.Path.{_≡_}
-use mathlib.Core.Bool.{Bool, _&&_, cond, false}
+use mathlib.Core.Bool.{Bool, _&&_, cond}
 use mathlib.Core.List.{List, []}
 use Prim.Native.Nat.{ℕ, zero, suc}
 use lib.Dec.{eqb}
@@ -13,7 +12,6 @@ use Rattle.ppm_read.specs.declared.Size.{Size}
 use Rattle.p6_header.specs.P6Header.{headerOf}
 use Rattle.ppm_read.specs.P6.{sizeIn, p6Refusal, rasterOf}
 use Rattle.output_lines.specs.Lines.{refusedText, alignedText}
-use Rattle.output_lines.specs.Writes.{Wrote}
 
 -- "It lends 65536 grey bytes and 8192 words."
 abbrev pub greyLent : ℕ
@@ -58,8 +56,3 @@ filesText s tolerance percentile first second =
 -- whether the pair is aligned: only then is the lent work memory free
 abbrev pub filesAlign : ℕ → ℕ → ℕ → List ℕ → List ℕ → Bool
 filesAlign s tolerance percentile first second = eqb (bracketRefusal s tolerance percentile first second) 0
-
--- what a function leaves that prints for two frames: a text at the beginning of the output and, where no pair was aligned, its work memory as it was
-pub record Printed (aligned : Bool) (text grey grey′ words words′ out : List ℕ) (r : ℕ) (out′ : List ℕ) : Type 0 where
-  pub wrote : Wrote 0 text out r out′
-  pub memoryKept : aligned ≡ false → (grey′ ≡ grey) × (words′ ≡ words)

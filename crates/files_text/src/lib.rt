@@ -8,8 +8,8 @@ use ppm_read::p6_raster;
 use ppm_read::p6_size;
 use rules::Paired;
 ghost use mathlib.Core.Path.{_≡_};
-ghost use Rattle.files_text.specs.FilesText.{filesText, filesAlign, Printed};
-ghost use Rattle.files_text.specs.PairTexts.{pairText, pairAligns, rasterOfSize};
+ghost use Rattle.files_text.specs.FilesText.{filesText, filesAlign};
+ghost use Rattle.files_text.specs.PairTexts.{pairText, pairAligns, rasterOfSize, Printed};
 
 // The memory that is lent: work memory for the pair, and room for the longest output, of 949 bytes.
 pub const GREY_LENT: usize = 65536;

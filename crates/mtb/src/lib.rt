@@ -1,4 +1,4 @@
-// The library for C: each offered call as a function that include/mtb.h declares.
+// The library for C: each call that a board makes, and the work memory it needs, as functions that include/mtb.h declares.
 
 mod alignment;
 mod bitmaps;

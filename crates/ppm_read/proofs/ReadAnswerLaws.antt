@@ -4,7 +4,8 @@ use mathlib.Core.List.{List, []}
 use Prim.Native.Nat.{ℕ, zero, suc}
 use Rattle.ppm_read.specs.declared.Size.{Size}
 use Rattle.ppm_read.specs.declared.SizeRead.{SizeRead}
-use Rattle.ppm_read.specs.P6.{sizeRead, partOr}
+use Rattle.rules.specs.Parts.{partOr}
+use Rattle.ppm_read.specs.P6.{sizeRead}
 
 -- A refused file: the companion answers its number, and the part is empty.
 pub read-refused : (n : ℕ) (size : Size) → (n ≡ 0 → ⊥) → SizeRead.Refused n ≡ sizeRead n size

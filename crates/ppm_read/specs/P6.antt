@@ -1,8 +1,10 @@
 -- The reader of P6 files, from what their headers say.
-use mathlib.Core.List.{List, []}
+use mathlib.Core.Path.{_≡_}
+use mathlib.Core.List.{List}
 use Prim.Native.Nat.{ℕ, zero, suc, _-_}
 use lib.ListN.{length, drop}
 use Rattle.rules.specs.Refusals.{_when_, _orElse_, badSize, wrongLength, rasterLength}
+use Rattle.rules.specs.Parts.{partOr, Place, placeFrom}
 use Rattle.p6_header.specs.declared.Header.{Header}
 use Rattle.p6_header.specs.P6Header.{headerOf, startIn}
 use Rattle.ppm_read.specs.declared.Size.{Size}
@@ -30,9 +32,10 @@ abbrev pub sizeAnswer : List ℕ → SizeRead
 sizeAnswer file = sizeRead (p6Refusal file) (sizeIn (headerOf file))
 
 -- The reader: "hands back the raster as the part of the file's bytes that it is", "an empty part when refused".
-abbrev pub partOr : ℕ → List ℕ → List ℕ
-partOr zero part = part
-partOr (suc n) part = []
-
 abbrev pub rasterOf : List ℕ → List ℕ
 rasterOf file = partOr (p6Refusal file) (drop (startIn (headerOf file)) file)
+
+-- what the call leaves for a file that lies at a place: what the part holds, and that it lies just after the header
+pub record RasterCall (file : List ℕ) (place : Place) (part : List ℕ) (partPlace : Place) : Type 0 where
+  pub holds : part ≡ rasterOf file
+  pub lies : p6Refusal file ≡ 0 → partPlace ≡ placeFrom (startIn (headerOf file)) place

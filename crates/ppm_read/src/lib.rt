@@ -3,7 +3,8 @@
 pub mod reading;
 
 ghost use mathlib.Core.Path.{_≡_};
-ghost use Rattle.ppm_read.specs.P6.{rasterOf, sizeAnswer};
+ghost use denote.Ref.{ptr};
+ghost use Rattle.ppm_read.specs.P6.{sizeAnswer, RasterCall};
 
 // A frame's width and height.
 pub struct Size {
@@ -19,7 +20,7 @@ pub enum SizeRead {
 
 // The raster of a P6 file, as the part of the file's bytes that it is; empty when refused.
 pub fn p6_raster(file: &[u8]) -> &[u8]
-    ensures { λ r. ⌜ now r ≡ rasterOf (now (file .entry)) ⌝ }
+    ensures { λ r. ⌜ RasterCall (now (file .entry)) (ptr (file .entry)) (now r) (ptr r) ⌝ }
 {
     if reading::file_refusal(file) != 0 {
         return &file[..0];

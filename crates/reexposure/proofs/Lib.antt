@@ -3,3 +3,4 @@ pub mod Links
 pub mod SamePairs
 pub mod Theorem
 pub mod Tolerance1Laws
+pub mod FlatSeriesLaws

@@ -1,3 +1,4 @@
 -- What the re-exposure theorem says.
 pub mod Reexposure
 pub mod Tolerance1
+pub mod FlatSeries

@@ -1,6 +1,6 @@
 // The order of document 01's refusal numbers, and tests that several calls share. A call's number is worked
-// out from sizes, settings and lengths alone, before it touches a buffer: the lowest that applies, 0 where
-// none does.
+// out before it writes anything, from sizes, settings and lengths alone, but for a file's header (1) and
+// a common area's offsets (12, 13): the lowest that applies, 0 where none does.
 
 ghost use mathlib.Core.Path.{_≡_};
 ghost use Rattle.rules.specs.Refusals.{_when_, _orElse_, badSize, badFrames, badPercentile, toleranceRefusal};

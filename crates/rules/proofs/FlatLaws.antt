@@ -7,7 +7,7 @@ use Prim.Native.Nat.{ℕ, zero, suc, _+_, _*_, _-_, _/_, _^_, _≤_, _<_, min, m
 use native.Mathlib.Nat.{mul-pos, mul-comm, mul-le-mul-right}
 use native.Mathlib.Omega.{arith}
 use lib.Dec.{leb, ltb}
-use lib.IntN.{ℤ, pos, negsuc, negℤ, _+ℤ_, _-ℤ_}
+use lib.IntN.{ℤ, pos, negsuc, negℤ, _+ℤ_, _-ℤ_, negℤ-+ℤ}
 use lib.Pow.{pow-pos}
 use borrow.Author.Tests.{le-leb, lt-leb, le-ltb}
 use Rattle.rules.specs.Limits.{maxGrey}
@@ -79,13 +79,9 @@ first-taken : (centre : Offset) (coarser : List ℕ)
 unfolding level chosen firstLeast
 first-taken centre coarser = refl
 
--- twice −n and a step further
-step-further : (n : ℕ) → negℤ (pos n) +ℤ negℤ (pos n) +ℤ negsuc 0 ≡ negℤ (pos (n + n + 1))
-step-further zero = refl
-step-further (suc n) =
-    let a : suc (suc (n + n) + 0) ≡ n + n + 2 = omega arith in
-    let b : suc (n + n + 2) ≡ suc n + suc n + 1 = omega arith in
-    ap negsuc a ∙ ap (λ (k : ℕ). negℤ (pos k)) b
+-- numbers below 0 added
+pub neg-add : (m n : ℕ) → negℤ (pos m) +ℤ negℤ (pos n) ≡ negℤ (pos (m + n))
+neg-add m n = sym (negℤ-+ℤ (pos m) (pos n))
 
 more-zeros : (m n : ℕ) → zeros m ++ zeros n ≡ zeros (m + n)
 more-zeros zero n = let e : n ≡ 0 + n = omega arith in ap zeros e
@@ -96,7 +92,8 @@ next-level s =
     let n : ℕ = 2 ^ suc s - 1 in
     let e : n + n + 1 ≡ 2 ^ suc (suc s) - 1 = omega (arith, pow-pos s) in
     let z : ℤ = negℤ (pos n) in
-    let d : z +ℤ z +ℤ negsuc 0 ≡ negℤ (pos (2 ^ suc (suc s) - 1)) = step-further n ∙ ap (λ (k : ℕ). negℤ (pos k)) e in
+    let d : z +ℤ z +ℤ negsuc 0 ≡ negℤ (pos (2 ^ suc (suc s) - 1)) =
+    ap (λ (k : ℤ). k +ℤ negsuc 0) (neg-add n n) ∙ neg-add (n + n) 1 ∙ ap (λ (k : ℕ). negℤ (pos k)) e in
     let m : 9 * (s + 1) + 9 ≡ 9 * (suc s + 1) = omega arith in
     let c : zeros (9 * (s + 1)) ++ zeros 9 ≡ zeros (9 * (suc s + 1)) = more-zeros (9 * (s + 1)) 9 ∙ ap zeros m in
     first-taken (added (farthest s .offset) (farthest s .offset)) (farthest s .counts) ∙ (λ i. record { offset = record { dx = d i; dy = d i }; counts = c i })

@@ -1,4 +1,4 @@
--- What an accepted call knows of its sizes, settings and lengths: the cores require these.
+-- What an accepted call knows of its sizes, settings and lengths, which is what the cores require.
 use mathlib.Core.Path.{_≡_}
 use mathlib.Core.List.{List}
 use Prim.Native.Nat.{ℕ, _+_, _*_, _-_, _/_, _^_, _≤_, _<_}

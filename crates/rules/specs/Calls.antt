@@ -1,4 +1,4 @@
--- For each offered call one definition of what it leaves: its answer, and what each lent buffer holds when it returns, from the call's inputs alone.
+-- For each call of the aligner one definition of what it leaves: its answer, and what each lent buffer holds when it returns, from the call's inputs alone.
 use mathlib.Core.Path.{_≡_}
 use mathlib.Core.List.{List}
 use Prim.Native.Nat.{ℕ, _/_}

@@ -1,6 +1,6 @@
--- Flat frames: "Two equal flat frames, s=2, 16 by 16: all 27 counts 0, offset (−7,−7)." So it is for every grey value, size, tolerance and percentile:
+-- Flat frames: "Two equal flat frames, s=2, 16 by 16: all 27 counts 0, offset (−7,−7)." So it is for every grey value, size, tolerance and percentile from 1 to 99:
 -- each pixel has the threshold's grey value and is left out, so every count is 0, and each level takes the first candidate.
--- Hence document 000's function "reaches 2^(s+1)−1", and no smaller bound holds.
+-- Hence document 000's function "reaches 2^(s+1)−1", and no smaller bound holds for a pair.
 use mathlib.Core.Path.{_≡_}
 use mathlib.Core.List.{List, [], _∷_}
 use Prim.Native.Nat.{ℕ, zero, suc, _+_, _*_, _-_, _^_, _≤_}
@@ -27,7 +27,7 @@ zeros (suc n) = 0 ∷ zeros n
 abbrev pub farthest : ℕ → Aligned
 farthest s = record { offset = record { dx = negℤ (pos (2 ^ suc s - 1)); dy = negℤ (pos (2 ^ suc s - 1)) }; counts = zeros (9 * (s + 1)) }
 
--- the pair call's result for two equal flat frames (proved in proofs/FlatLaws.antt as `flat-frames`)
+-- the pair call's result for two equal flat frames (proved in proofs/FlatRasterLaws.antt as `flat-frames`)
 abbrev pub FlatFrames : Type 0
 FlatFrames =
     (w h s tolerance percentile v : ℕ) (first second : List ℕ) → 1 ≤ percentile → percentile ≤ 99 → v ≤ maxGrey

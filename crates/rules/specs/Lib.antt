@@ -1,4 +1,4 @@
--- Document 01 as definitions, pixel by pixel, one file a subject. What a reader has to believe stands here.
+-- Document 01 as definitions, pixel by pixel, one file a subject; docs/TRUST.md says which files a reader has to believe.
 pub mod Limits
 pub mod Sums
 pub mod Frames
@@ -11,6 +11,7 @@ pub mod Differences
 pub mod Refusals
 pub mod Accepted
 pub mod Answers
+pub mod Parts
 pub mod Levels
 pub mod Series
 pub mod Calls

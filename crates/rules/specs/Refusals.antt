@@ -1,5 +1,5 @@
 -- The refusal number of each call: "the lowest that applies is given, and none otherwise"; 0 is none.
--- The conditions see sizes, settings and lengths, never what a buffer holds.
+-- The conditions see sizes, settings (a series' percentiles among them) and lengths, never a pixel.
 use mathlib.Core.Bool.{Bool, true, false, _||_, not}
 use mathlib.Core.List.{List, [], _∷_}
 use Prim.Native.Nat.{ℕ, zero, suc, _+_, _*_, _-_, _/_, _^_}

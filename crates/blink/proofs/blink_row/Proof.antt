@@ -24,7 +24,7 @@ returns : tie.Need-returns
 returns c =
     let told = c .before .before .before in
     let a = told .before .before .before .args in
-    part-refused (a .w) (a .h) (a .y) (a .other) (a .first .now) (a .second .now) _ (sym (told .blink-start .ensures) ∙ c .before .enum-told .given .1)
+    part-refused (a .w) (a .h) (a .y) (a .other) (a .first .now) (a .first .ptr) (a .second .now) (a .second .ptr) _ _ (sym (told .blink-start .ensures) ∙ c .before .enum-told .given .1)
 
 -- what an accepted call knows: where the row begins, and its sizes
 accepted : (c : tie.After-known-told)
@@ -33,7 +33,7 @@ accepted : (c : tie.After-known-told)
 accepted c =
     let told = c .before .before .before in
     let a = told .before .before .before .args in
-    let s = started (a .w) (a .h) (a .y) (a .other) (a .first .now) (a .second .now) _ (sym (told .blink-start .ensures) ∙ c .before .from .given .1) in
+    let s = started (a .w) (a .h) (a .y) (a .other) (a .first .now) (a .first .ptr) (a .second .now) (a .second .ptr) _ (sym (told .blink-start .ensures) ∙ c .before .from .given .1) in
     (s .1, blink-ok (a .w) (a .h) (a .y) (length (a .first .now)) (length (a .second .now)) (s .0))
 
 mul-to : tie.Need-mul-to
@@ -65,16 +65,16 @@ returns-2 c =
     let from = c .before .before .before in
     let told = from .before .before in
     let a = told .before .before .before .args in
-    part-is (a .w) (a .h) (a .y) (a .other) (a .first .now) (a .second .now) _ _
-    (sym (told .blink-start .ensures) ∙ from .from .given .1) (rw (c .before .if1 .taken))
+    part-is (a .w) (a .h) (a .y) (a .other) (a .first .now) (a .first .ptr) (a .second .now) (a .second .ptr) _ (a .second .now) (a .second .ptr)
+    (sym (told .blink-start .ensures) ∙ from .from .given .1) (rw (c .before .if1 .taken)) (rw (c .before .if1 .taken))
 
 returns-3 : tie.Need-returns-3
 returns-3 c =
     let from = c .before .before .before in
     let told = from .before .before in
     let a = told .before .before .before .args in
-    part-is (a .w) (a .h) (a .y) (a .other) (a .first .now) (a .second .now) _ _
-    (sym (told .blink-start .ensures) ∙ from .from .given .1) (rw (c .before .if1 .left))
+    part-is (a .w) (a .h) (a .y) (a .other) (a .first .now) (a .first .ptr) (a .second .now) (a .second .ptr) _ (a .first .now) (a .first .ptr)
+    (sym (told .blink-start .ensures) ∙ from .from .given .1) (rw (c .before .if1 .left)) (rw (c .before .if1 .left))
 
 pub blink-row-spec : {M : Type 1} → statement M
 blink-row-spec =

@@ -77,7 +77,7 @@ returns-3 c =
     let b = two .before .before .before in
     let a = start (b .before .before .before) .args in
     let second = sym (b .before .before .p6-size2 .ensures) ∙ two .held22 .given .1 in
-    let put = rw (r .before .p6-raster .ensures, r .raster-of-size .ensures) at (c .put-pair .ensures) in
+    let put = rw (r .before .p6-raster .ensures .holds, r .raster-of-size .ensures) at (c .put-pair .ensures) in
     record {
       wrote = rw (both-good (a .s) (a .tolerance) (a .percentile) (a .first .now) (a .second .now) _ (sizeRead b) _ second) (put .wrote);
       memoryKept = rw (same-number (a .s) (a .tolerance) (a .percentile) (a .first .now) (a .second .now) _ (sizeRead b) _ second) (put .memoryKept);

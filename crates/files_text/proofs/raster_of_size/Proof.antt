@@ -24,7 +24,7 @@ p6-raster-requires c κs = search needs
 
 returns-3 : tie.Need-returns-3
 unfolding rasterOfSize
-returns-3 c = rw (eq-eqb _ _ (c .before .before .before .before .if1 .left), eq-eqb _ _ (c .before .if2 .left)) (c .p6-raster .ensures)
+returns-3 c = rw (eq-eqb _ _ (c .before .before .before .before .if1 .left), eq-eqb _ _ (c .before .if2 .left)) (c .p6-raster .ensures .holds)
 
 pub raster-of-size-spec : {M : Type 1} → statement M
 raster-of-size-spec =

@@ -56,6 +56,16 @@ module _ (c : tie.At-loop Inv-loop μ-loop) where
   written : (after : List ℤ) → after ≡ withOffset (c .loop .k) (c .loop .m) (c .loop .offsets) → after ≡ writtenOver (offsetList (c .loop .k + 1) frames) lent
   written after put = put-next frames lent (c .loop .offsets) (c .loop .k) (c .loop .inv .2) (omega arith) (c .loop .m) after (c .loop .inv .1) put
 
+loop-again : tie.Need-loop-again Inv-loop μ-loop
+loop-again c =
+    let i = c .before .before .before .before .before in
+    let a = begun i in
+    let l = i .loop in (
+      omega arith,
+      next-frame (a .args .pairs .now) (a .args .r) (l .k) (l .m) (c .next-offset .result) (l .inv .1) (c .next-offset .ensures),
+      written i (c .before .before .put-offset .last .0) (c .before .before .put-offset .ensures),
+    )
+
 put-offset-requires : tie.Need-put-offset-requires Inv-loop μ-loop
 put-offset-requires c κs = let r = ready (c .before .before) in omega arith
 
@@ -71,16 +81,6 @@ add-k c = search needs
 
 loop-less : tie.Need-loop-less Inv-loop μ-loop
 loop-less c = search needs
-
-loop-again : tie.Need-loop-again Inv-loop μ-loop
-loop-again c =
-    let i = c .before .before .before .before .before in
-    let a = begun i in
-    let l = i .loop in (
-      omega arith,
-      next-frame (a .args .pairs .now) (a .args .r) (l .k) (l .m) (c .next-offset .result) (l .inv .1) (c .next-offset .ensures),
-      written i (c .before .before .put-offset .last .0) (c .before .before .put-offset .ensures),
-    )
 
 put-offset-requires-2 : tie.Need-put-offset-requires-2 Inv-loop μ-loop
 put-offset-requires-2 c κs = let r = ready (c .before .before) in omega arith

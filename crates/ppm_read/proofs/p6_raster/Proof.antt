@@ -1,5 +1,7 @@
--- A refused file has an empty part; the raster of any other one begins in the file or at its end, and is all the rest.
-use mathlib.Core.Path.{sym, _∙_}
+-- A refused file has an empty part; the raster of any other one begins in the file or at its end, is all the rest, and lies there.
+use mathlib.Core.Path.{sym, ap, _∙_}
+use Prim.Native.Nat.{ℕ}
+use Rattle.rules.specs.Parts.{placeFrom}
 use Rattle.p6_header.proofs.FieldLaws.{rest-whole}
 use Rattle.p6_header.proofs.HeaderLaws.{start-within}
 use Rattle.ppm_read.proofs.ReadAnswerLaws.{part-refused}
@@ -15,7 +17,12 @@ slice-aggregate-result : tie.Need-slice-aggregate-result
 slice-aggregate-result c = search needs
 
 returns : tie.Need-returns
-returns c = rw (← c .before .before .file-refusal .ensures) (part-refused _ _ (c .before .if1 .taken))
+returns c =
+    let e = c .before .before .file-refusal .ensures in
+    record {
+      holds = rw (← e) (part-refused _ _ (c .before .if1 .taken));
+      lies = λ z. absurd (c .before .if1 .taken (e ∙ z));
+    }
 
 raster-start-requires : tie.Need-raster-start-requires
 raster-start-requires c κs = search needs
@@ -33,7 +40,11 @@ returns-2 : tie.Need-returns-2
 returns-2 c =
     let e = c .before .before in
     let file = e .before .before .before .args .file .now in
-    rw (sym (e .before .file-refusal .ensures) ∙ e .if1 .left, rest-whole file (c .before .raster-start .result), c .before .raster-start .ensures)
+    let start = c .before .raster-start in
+    record {
+      holds = rw (sym (e .before .file-refusal .ensures) ∙ e .if1 .left, rest-whole file (start .result), start .ensures);
+      lies = λ z. ap (λ (k : ℕ). placeFrom k (e .before .before .before .args .file .ptr)) (start .ensures);
+    }
 
 pub p6-raster-spec : {M : Type 1} → statement M
 p6-raster-spec =

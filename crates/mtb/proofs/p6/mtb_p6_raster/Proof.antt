@@ -23,7 +23,7 @@ raster-start-requires c κs = search needs
 returns-2 : tie.Need-returns-2
 returns-2 c =
     let e = sym (c .before .before .if1 .left) ∙ c .before .before .before .file-refusal .ensures in
-    (e, (c .raster-start .ensures, ap length (c .before .p6-raster .ensures)))
+    (e, (c .raster-start .ensures, ap length (c .before .p6-raster .ensures .holds)))
 
 pub mtb-p6-raster-spec : {M : Type 1} → statement M
 mtb-p6-raster-spec =

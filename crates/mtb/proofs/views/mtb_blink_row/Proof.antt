@@ -21,7 +21,7 @@ enum-known-n c = search needs
 returns : tie.Need-returns
 returns c =
     let m = row-at _ _ _ (sym (c .before .before .from .given .1) ∙ c .before .before .before .before .blink-start .ensures) in
-    (m .0, (m .1, (ap length (c .blink-row .ensures))))
+    (m .0, (m .1, (ap length (c .blink-row .ensures .holds))))
 
 returns-2 : tie.Need-returns-2
 returns-2 c =
