@@ -270,7 +270,7 @@ def goals(results):
 def machine(results):
     f = results.facts
     keys = ("processor", "caches", "system", "commit", "toolchain", "compiler", "OpenCV", "valgrind")
-    return table(["", ""], [[key, f[key]] for key in keys if key in f])
+    return table(["", ""], [[key, f[key]] for key in keys if key in f] + [["load average as the run began", f["load"]]])
 
 
 def busy(results):
