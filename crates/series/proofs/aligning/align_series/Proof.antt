@@ -10,6 +10,19 @@ use borrow.Author.Needs.{needs}
 use Rattle.series.proofs.aligning.align_series.Statement.{statement}
 use Rattle.series.proofs.aligning.align_series.Tie as tie
 
+-- the answer
+returns : tie.Need-returns
+returns c =
+    let s = c .before .before .before .before .before .before .before .before .before .before .before .before .before .before .before .before .before .before .before .before .before in
+    let a = s .args in
+    let run = c .before .before .before .before .before .before .before .before .before .before .before .align-pairs in
+    let preferred = arranged (a .order .now) in (
+      answer-offsets preferred (a .setup) (a .n) (a .r) (a .percentiles .now) (a .rasters .now) _ (run .last .1 .1 .1 .1 .0) (a .counts .now) (run .last .1 .1 .1 .1 .1 .0) (run .ensures)
+          (a .offsets .now) _ (s .pre .0 .reference) (c .before .frame-offsets .ensures),
+      answer-counts preferred (a .setup) (a .n) (a .r) (a .percentiles .now) (a .rasters .now) _ (run .last .1 .1 .1 .1 .0) (a .counts .now) (run .last .1 .1 .1 .1 .1 .0) (run .ensures),
+    )
+
+-- what the operations ask
 slice-aggregate-align-pairs : tie.Need-slice-aggregate-align-pairs
 slice-aggregate-align-pairs c = search needs
 
@@ -50,17 +63,6 @@ same-length-3 c = search needs
 
 same-length-4 : tie.Need-same-length-4
 same-length-4 c = search needs
-
-returns : tie.Need-returns
-returns c =
-    let s = c .before .before .before .before .before .before .before .before .before .before .before .before .before .before .before .before .before .before .before .before .before in
-    let a = s .args in
-    let run = c .before .before .before .before .before .before .before .before .before .before .before .align-pairs in
-    let preferred = arranged (a .order .now) in (
-      answer-offsets preferred (a .setup) (a .n) (a .r) (a .percentiles .now) (a .rasters .now) _ (run .last .1 .1 .1 .1 .0) (a .counts .now) (run .last .1 .1 .1 .1 .1 .0) (run .ensures)
-          (a .offsets .now) _ (s .pre .0 .reference) (c .before .frame-offsets .ensures),
-      answer-counts preferred (a .setup) (a .n) (a .r) (a .percentiles .now) (a .rasters .now) _ (run .last .1 .1 .1 .1 .0) (a .counts .now) (run .last .1 .1 .1 .1 .1 .0) (run .ensures),
-    )
 
 pub align-series-spec : {M : Type 1} → statement M
 align-series-spec =
