@@ -14,7 +14,7 @@ use Rattle.rules.proofs.RefusalLaws.{size-ok, when-no, orElse-no, or-no, length
 use Rattle.rules.proofs.FrameLaws.{row-fits}
 use Rattle.rules.specs.Parts.{partOr, Place, placeFrom}
 use Rattle.blink.specs.declared.Row.{Row}
-use Rattle.blink.specs.Blink.{blinkRefusal, rowStart, rasterRow, blinkRow, BlinkCall, rowAt, blinkAnswer}
+use Rattle.blink.specs.Blink.{blinkRefusal, rowStart, rasterRow, BlinkCall, rowAt, blinkAnswer}
 
 -- What an accepted call knows.
 pub record BlinkOk (w h y first second : ℕ) : Type 0 where

@@ -8,8 +8,8 @@ use libc::STDOUT_FILENO;
 use report::MAX_FILE;
 ghost use Rattle.io.specs.Counts.{Counts};
 
-// How much is read; report's proofs/ReadLimits shows that more would print nothing else. The longest
-// good line has 29 bytes, and one byte more than the most tells that a file is longer.
+// How much is read at most; report's proofs/ReadLimits shows that more, of a line too, would print nothing
+// else. The longest good line has 29 bytes, and one byte more than the most tells that a file is longer.
 const LINE: usize = 30;
 
 const FILE: usize = MAX_FILE + 1;

@@ -6,12 +6,12 @@ use Prim.Native.Nat.{ℕ, zero, suc, _+_, _*_, _≤_}
 use native.Mathlib.Nat.{mul-le-mul}
 use native.Mathlib.Omega.{arith}
 use lib.Dec.{eqb}
-use lib.ListN.{length, drop, length-append}
+use lib.ListN.{length, drop}
 use Rattle.rules.specs.declared.Offset.{Offset}
 use Rattle.rules.specs.declared.Paired.{Paired}
 use Rattle.rules.specs.Answers.{paired, bufferAfter}
 use Rattle.rules.specs.Levels.{wardOrder, byTolerance, Aligned}
-use Rattle.rules.specs.Refusals.{_orElse_, toleranceRefusal, pairRefusal}
+use Rattle.rules.specs.Refusals.{_orElse_, toleranceRefusal}
 use Rattle.rules.specs.Calls.{pairResult}
 use Rattle.rules.specs.Accepted.{PairOk}
 use Rattle.rules.proofs.AlignmentLaws.{pair-ok}

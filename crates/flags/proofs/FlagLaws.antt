@@ -12,8 +12,8 @@ use lib.Seq.{getD-set-same, getD-set-other}
 use borrow.Author.Tests.{lt-ltb, le-ltb, eqb-true}
 use Rattle.rules.specs.Sums.{gate, oneIf}
 use Rattle.rules.proofs.SumLaws.{order, gate-small}
+use Rattle.rules.proofs.CaseLaws.{compared, all, all-at}
 use Rattle.flags.specs.Flags.{outsideBit, flagAt, Weighed}
-use Rattle.flags.proofs.CaseLaws.{compared, all, all-at}
 
 -- Counted on from lo, round at 256, the values of lo..hi come first: one test tells where v lies.
 pub outside-past : (lo hi v : ℕ) → lo ≤ hi → hi < 256 → v < 256 → hi - lo < (v + (256 - lo)) % 256 → outsideBit lo hi v ≡ 1

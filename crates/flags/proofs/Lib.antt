@@ -1,3 +1,2 @@
--- Laws of flags and of proofs by cases.
-pub mod CaseLaws
+-- Laws of flags.
 pub mod FlagLaws

@@ -13,7 +13,7 @@ use Rattle.rules.specs.Bitmaps.{bit, word}
 use Rattle.words.proofs.BitLaws.{bit-or, bit-above, bit-shl-high, bit-shl-low, word-bit, word-ext, word-is}
 use Rattle.gather.specs.Gathers.{Bytes, byColumns}
 use Rattle.flags.specs.Flags.{Weighed}
-use Rattle.flags.proofs.CaseLaws.{compared}
+use Rattle.rules.proofs.CaseLaws.{compared}
 
 -- a flag is its own lowest bit
 bit-flag : (v : ℕ) → v < 2 → bit v 0 ≡ v

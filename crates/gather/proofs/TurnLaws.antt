@@ -17,7 +17,7 @@ use Rattle.rules.proofs.SumLaws.{order}
 use Rattle.rules.proofs.FrameLaws.{row-more}
 use Rattle.words.proofs.BitLaws.{bit-and, bit-xor, bit-shr, bit-lt, bit-shl64-high, bit-shl64-low, word-is}
 use Rattle.gather.specs.Gathers.{byColumns, turnedAt, exchangeBits, exchanged}
-use Rattle.flags.proofs.CaseLaws.{and-both, all, all-at}
+use Rattle.rules.proofs.CaseLaws.{and-both, all, all-at}
 
 differ-zero : (a : ℕ) → differ a 0 ≡ a
 differ-zero zero = refl

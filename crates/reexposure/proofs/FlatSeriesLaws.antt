@@ -1,7 +1,6 @@
 -- A series of flat frames: each pair's offset is as far as a pair's can be, and all in one direction.
 use mathlib.Core.Path.{_≡_, refl, sym, ap, ap₂, _∙_}
 use mathlib.Core.Bool.{Bool, true, false, cond}
-use mathlib.Core.List.{List}
 use Prim.Native.Nat.{ℕ, zero, suc, _+_, _*_, _-_, _^_, _≤_, _<_, min, max}
 use native.Mathlib.Nat.{zero-mul, suc-mul}
 use native.Mathlib.Omega.{arith}
@@ -11,10 +10,10 @@ use lib.ListN.{getD}
 use borrow.Author.Tests.{leb-true, leb-false}
 use Rattle.rules.specs.declared.Offset.{Offset}
 use Rattle.rules.specs.Planes.{distance}
-use Rattle.rules.specs.Levels.{still, added, wardOrder, byTolerance, Aligned, pair}
+use Rattle.rules.specs.Levels.{added, wardOrder, byTolerance, Aligned, pair}
 use Rattle.rules.specs.Series.{greyOf, pairOf, sumFrom, opposite, frameOffset, answerOf, answerBy, seriesAnswer}
 use Rattle.rules.specs.Calls.{toleranceSettings}
-use Rattle.rules.specs.FlatFrames.{flat, farthest}
+use Rattle.rules.specs.FlatFrames.{flat}
 use Rattle.rules.proofs.OffsetLaws.{abs-neg, offset-at}
 use Rattle.rules.proofs.PairLaws.{pair-ext}
 use Rattle.rules.proofs.FlatLaws.{neg-add, flat-pair}

@@ -1,38 +1,23 @@
 -- At tolerance 1 a re-exposed pair answers differently: its comparisons by a test over all pixels, its answers by computing the definitions.
-use mathlib.Core.Path.{_≡_, refl, sym, ap, _∙_}
+use mathlib.Core.Path.{_≡_, refl, sym}
 use mathlib.Core.Bool.{Bool, true, false, _&&_, true≢false}
 use mathlib.Core.List.{List, [], _∷_}
-use mathlib.Core.Logic.{⊎-elim}
-use Prim.Native.Nat.{ℕ, zero, suc, _<_, _≤_, compare, Ordering, Ordering·lt, Ordering·eq, Ordering·gt}
+use Prim.Native.Nat.{ℕ, zero, suc, compare, Ordering, Ordering·lt, Ordering·eq, Ordering·gt}
 use native.Mathlib.Omega.{arith}
 use lib.Dec.{ltb}
-use lib.ListN.{length, getD}
 use borrow.Author.Tests.{ltb-true}
 use Rattle.rules.specs.Sums.{sum, sumPixels}
-use Rattle.rules.specs.Frames.{frameOf}
 use Rattle.rules.specs.Greys.{grey, greyFrame}
 use Rattle.rules.specs.Thresholds.{atMost, reaches, least, threshold}
 use Rattle.rules.specs.Planes.{thresholdBit, distance, exclusionBit, within}
 use Rattle.rules.specs.Bitmaps.{rowWords}
 use Rattle.rules.specs.Differences.{differ, differAt, difference}
 use Rattle.rules.specs.Refusals.{badSide, badSize, badHalvings, tooSmall, badTolerance, badFrames, badReference, badPercentile, someBadPercentile, badPercentiles, levelPixels, seriesRefusal}
-use Rattle.rules.specs.Levels.{byTolerance, planesBy, firstLeast, chosen, level, countAt, pair}
+use Rattle.rules.specs.Levels.{planesBy, firstLeast, chosen, level, countAt, pair}
 use Rattle.rules.specs.Series.{greyOf, pairOf, sumFrom, frameOffset, offsetList, countList, answerOf, answerBy, seriesAnswer}
-use Rattle.rules.proofs.SumLaws.{order}
-use Rattle.rules.proofs.LevelLaws.{both-true}
-use Rattle.reexposure.specs.Reexposure.{Bytes, ByOrder}
+use Rattle.rules.proofs.CaseLaws.{all, and-both, all-at}
+use Rattle.reexposure.specs.Reexposure.{Bytes}
 use Rattle.reexposure.specs.Tolerance1.{atTolerance1, taken, takenAgain, DiffersAtTolerance1, OneNotByOrder}
-
--- a test for all numbers below n, and what it shows
-abbrev every : ℕ → (ℕ → Bool) → Bool
-every zero p = true
-every (suc n) p = p n && every n p
-
-every-at : (n : ℕ) (p : ℕ → Bool) → every n p ≡ true → (k : ℕ) → k < n → p k ≡ true
-every-at zero p e k l = absurd (omega arith)
-every-at (suc n) p e k l =
-    let t = both-true (p n) (every n p) e in
-    ⊎-elim (λ (m : k < n). every-at n p (t .1) k m) (λ (m : n ≤ k). let d : k ≡ n = omega arith in ap p d ∙ t .0) (order k n)
 
 abbrev same : Ordering → Ordering → Bool
 same Ordering·lt Ordering·lt = true
@@ -64,13 +49,13 @@ alikeAt k x y u v =
 
 -- (x,y) and every pixel; every pixel of frame k
 abbrev alikeTo : ℕ → ℕ → ℕ → Bool
-alikeTo k x y = every 4 (λ u. every 4 (alikeAt k x y u))
+alikeTo k x y = all 4 (λ u. all 4 (alikeAt k x y u))
 
 abbrev alikeIn : ℕ → Bool
-alikeIn k = every 4 (λ x. every 4 (alikeTo k x))
+alikeIn k = all 4 (λ x. all 4 (alikeTo k x))
 
-all-alike : every 2 alikeIn ≡ true
-unfolding greyOf greyFrame grey
+all-alike : all 2 alikeIn ≡ true
+unfolding all greyOf greyFrame grey
 all-alike = refl
 
 -- every number of a list is below 256
@@ -80,8 +65,8 @@ allBytes (b ∷ l) = ltb b 256 && allBytes l
 
 are-bytes : (l : List ℕ) → allBytes l ≡ true → Bytes l
 are-bytes [] e i = omega arith
-are-bytes (b ∷ l) e zero = ltb-true b 256 (both-true (ltb b 256) (allBytes l) e .0)
-are-bytes (b ∷ l) e (suc i) = are-bytes l (both-true (ltb b 256) (allBytes l) e .1) i
+are-bytes (b ∷ l) e zero = ltb-true b 256 (and-both (ltb b 256) (allBytes l) e .0)
+are-bytes (b ∷ l) e (suc i) = are-bytes l (and-both (ltb b 256) (allBytes l) e .1) i
 
 pub differs-at-tolerance-1 : DiffersAtTolerance1
 unfolding sum sumPixels grey greyFrame atMost reaches least threshold thresholdBit distance exclusionBit within differ differAt difference
@@ -94,9 +79,9 @@ differs-at-tolerance-1 = record {
   bytes′ = are-bytes takenAgain refl;
   reexposed = record {
     alike = λ k i x y u v a b c d.
-        let frame = every-at 2 alikeIn all-alike k i in
-        let pixel = every-at 4 (alikeTo k x) (every-at 4 (λ z. every 4 (alikeTo k z)) frame x a) y b in
-        same-is _ _ (every-at 4 (alikeAt k x y u) (every-at 4 (λ z. every 4 (alikeAt k x y z)) pixel u c) v d);
+        let frame = all-at 2 alikeIn all-alike k i in
+        let pixel = all-at 4 (alikeTo k x) (all-at 4 (λ z. all 4 (alikeTo k z)) frame x a) y b in
+        same-is _ _ (all-at 4 (alikeAt k x y u) (all-at 4 (λ z. all 4 (alikeAt k x y z)) pixel u c) v d);
   };
   answer = refl;
   answer′ = refl;

@@ -6,7 +6,7 @@ use lib.IntN.{pos, negsuc}
 use lib.ListN.{length}
 use Rattle.rules.specs.Levels.{wardOrder, byTolerance}
 use Rattle.rules.specs.Refusals.{toleranceRefusal, seriesRefusal}
-use Rattle.rules.specs.Series.{Settings, Answer, seriesAnswer}
+use Rattle.rules.specs.Series.{Settings, seriesAnswer}
 use Rattle.rules.specs.Calls.{toleranceSettings}
 use Rattle.rules.specs.Examples.{firstRows, secondRows, colourless}
 use Rattle.reexposure.specs.Reexposure.{Reexposed, Bytes, ByOrder}

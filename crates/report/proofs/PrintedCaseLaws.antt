@@ -1,9 +1,6 @@
 -- The printed case: line, headers, refusals and digits by computing the definitions, the alignment as the examples of `rules` have it.
 use mathlib.Core.Path.{_≡_, refl, ap, _∙_}
-use mathlib.Core.List.{List}
-use Prim.Native.Nat.{ℕ}
 use Rattle.rules.specs.Bitmaps.{rowWords}
-use Rattle.rules.specs.Levels.{Aligned}
 use Rattle.rules.specs.Refusals.{badSide, badSize, badHalvings, tooSmall, badTolerance, badPercentile, levelPixels, pairRefusal}
 use Rattle.rules.specs.Examples.{firstRows, secondRows, printedResult, aligned}
 use Rattle.rules.proofs.ExampleLaws.{printed}

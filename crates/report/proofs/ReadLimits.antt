@@ -10,7 +10,8 @@ use lib.ListN.{length, take, length-take}
 use lib.Seq.{take-all}
 use borrow.Author.Tests.{lt-leb}
 use Rattle.rules.proofs.SumLaws.{order}
-use Rattle.settings_line.proofs.LineLimit.{settings-within}
+use Rattle.text.specs.Digits.{leading}
+use Rattle.settings_line.proofs.LineLimit.{inLine, settings-ended, settings-within}
 use Rattle.report.specs.Output.{asRead, bracketOutput}
 
 -- One byte more than the most that is read tells that a file is longer.
@@ -31,3 +32,8 @@ pub output-within : (input first second : List ℕ)
     → bracketOutput (take 30 input) (take 65537 first) (take 65537 second) ≡ bracketOutput input first second
 unfolding bracketOutput
 output-within input first second = rw (settings-within input, file-within first, file-within second)
+
+-- nor does a settings line need more than is up to its byte 10
+pub line-within : (input first second : List ℕ) (m : ℕ) → leading inLine input < m → bracketOutput (take m input) first second ≡ bracketOutput input first second
+unfolding bracketOutput
+line-within input first second m l = rw (settings-ended input m l)

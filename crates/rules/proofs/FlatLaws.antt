@@ -1,8 +1,7 @@
 -- Flat frames: every pixel is left out, so every count is 0, and the first candidate of each level is taken.
 use mathlib.Core.Path.{_≡_, refl, sym, ap, ap₂, fun-ext, _∙_}
-use mathlib.Core.Bool.{true, false, _&&_, not}
+use mathlib.Core.Bool.{true, false}
 use mathlib.Core.List.{List, [], _∷_, _++_}
-use mathlib.Core.Logic.{⊎-elim}
 use Prim.Native.Nat.{ℕ, zero, suc, _+_, _*_, _-_, _/_, _^_, _≤_, _<_, min, max}
 use native.Mathlib.Nat.{mul-pos, mul-comm, mul-le-mul-right}
 use native.Mathlib.Omega.{arith}
@@ -12,9 +11,9 @@ use lib.Pow.{pow-pos}
 use borrow.Author.Tests.{le-leb, lt-leb, le-ltb}
 use Rattle.rules.specs.Limits.{maxGrey}
 use Rattle.rules.specs.Sums.{gate, oneIf}
-use Rattle.rules.specs.Frames.{Frame, SameFrame}
-use Rattle.rules.specs.Greys.{secondSmallest, halved}
-use Rattle.rules.specs.Thresholds.{atMost, reaches, least, threshold}
+use Rattle.rules.specs.Frames.{Frame}
+use Rattle.rules.specs.Greys.{halved}
+use Rattle.rules.specs.Thresholds.{atMost, reaches, threshold}
 use Rattle.rules.specs.Planes.{distance, exclusionBit, within}
 use Rattle.rules.specs.Differences.{Planes, differ, differAt, difference}
 use Rattle.rules.specs.declared.Offset.{Offset}

@@ -1,16 +1,14 @@
 -- Laws of a level's answer: the candidate chosen, by its place among the nine.
 use mathlib.Core.Path.{_≡_, refl, sym, ap}
-use mathlib.Core.Bool.{Bool, true, false, _&&_, cond, true≢false}
-use mathlib.Core.Logic.{⊎-elim}
+use mathlib.Core.Bool.{Bool, true, false, cond}
 use mathlib.Core.List.{List, [], _∷_, map}
 use Prim.Native.Nat.{ℕ, zero, suc, _/_, _%_, _≤_, _<_}
 use native.Mathlib.Omega.{arith}
 use lib.Dec.{eqb, ltb}
-use lib.IntN.{ℤ, pos, negsuc}
 use lib.ListN.{length, getD}
 use borrow.Author.Tests.{ltb-true, ltb-false, eqb-true}
 use Rattle.rules.specs.declared.Offset.{Offset}
-use Rattle.rules.proofs.SumLaws.{order}
+use Rattle.rules.proofs.CaseLaws.{all, all-at}
 use Rattle.rules.specs.Levels.{still, added, wardOrder, arranged, times, Arrangement, firstLeast, chosen, candidateAt, stepOf}
 
 -- place r of a list has the least count, and every place before it a greater one
@@ -75,35 +73,12 @@ candidate-is centre (suc (suc (suc (suc (suc (suc (suc zero))))))) l = refl
 candidate-is centre (suc (suc (suc (suc (suc (suc (suc (suc zero)))))))) l = refl
 candidate-is centre (suc (suc (suc (suc (suc (suc (suc (suc (suc k))))))))) l = absurd (omega arith)
 
--- A list is an arrangement of the nine by a test that is computed.
-abbrev pub allBelow : ℕ → List ℕ → Bool
-allBelow n [] = true
-allBelow n (k ∷ ks) = ltb k n && allBelow n ks
-
-abbrev pub eachOnce : ℕ → List ℕ → Bool
-eachOnce zero ks = true
-eachOnce (suc n) ks = eqb (times n ks) 1 && eachOnce n ks
-
-pub both-true : (a b : Bool) → a && b ≡ true → (a ≡ true) × (b ≡ true)
-both-true true b e = (refl, e)
-both-true false b e = absurd (true≢false (sym e))
-
-below : (n : ℕ) (ks : List ℕ) → allBelow n ks ≡ true → (j : ℕ) → j < length ks → getD ks j 0 < n
-below n [] e j l = absurd (omega arith)
-below n (k ∷ ks) e zero l = ltb-true k n (both-true (ltb k n) (allBelow n ks) e .0)
-below n (k ∷ ks) e (suc j) l = below n ks (both-true (ltb k n) (allBelow n ks) e .1) j (omega arith)
-
-once : (n : ℕ) (ks : List ℕ) → eachOnce n ks ≡ true → (p : ℕ) → p < n → times p ks ≡ 1
-once zero ks e p l = absurd (omega arith)
-once (suc n) ks e p l =
-    let t = both-true (eqb (times n ks) 1) (eachOnce n ks) e in
-    ⊎-elim (λ (m : p < n). once n ks (t .1) p m) (λ (m : n ≤ p). let d : p ≡ n = omega arith in rw d (eqb-true (times n ks) 1 (t .0))) (order p n)
-
-pub arrangement : (places : List ℕ) → length places ≡ 9 → allBelow 9 places ≡ true → eachOnce 9 places ≡ true → Arrangement places
-arrangement places nine b o = record {
+-- A list is an arrangement of the nine by two tests that are computed.
+pub arrangement : (places : List ℕ) → length places ≡ 9 → all 9 (λ j. ltb (getD places j 0) 9) ≡ true → all 9 (λ p. eqb (times p places) 1) ≡ true → Arrangement places
+arrangement places nine below once = record {
   nine = nine;
-  inside = λ j l. below 9 places b j (rw nine l);
-  once = once 9 places o;
+  inside = λ j l. ltb-true (getD places j 0) 9 (all-at 9 (λ k. ltb (getD places k 0) 9) below j l);
+  once = λ p l. eqb-true (times p places) 1 (all-at 9 (λ k. eqb (times k places) 1) once p l);
 }
 
 -- a list made element by element, at a place

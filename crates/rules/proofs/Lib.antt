@@ -2,6 +2,7 @@
 pub mod ExampleLaws
 pub mod FlatLaws
 pub mod SumLaws
+pub mod CaseLaws
 pub mod FilledLaws
 pub mod FrameLaws
 pub mod RefusalLaws

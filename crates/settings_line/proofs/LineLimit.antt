@@ -60,7 +60,7 @@ leading-take p (suc k) (b ∷ l) = tested (p b) (leading-take p k l)
     tested true e = ap suc e ∙ sym (suc-min-suc k (leading p l))
     tested false e = sym (min-zero (suc k))
 
-abbrev inLine : ℕ → Bool
+abbrev pub inLine : ℕ → Bool
 inLine b = not (eqb b 10)
 
 -- what follows the byte 10 of the first line is not looked at

@@ -1,5 +1,4 @@
 -- The pairs' offsets stand in a list of their own, are small, and their sums are the answer.
-use mathlib.Core.Path.{_≡_}
 use Prim.Native.Nat.{_-_}
 use native.Mathlib.Omega.{arith}
 use lib.ListN.{length}
