@@ -10,7 +10,8 @@
 #include <opencv2/photo.hpp>
 #endif
 
-Answer library_pair(const Settings &settings, const Raster &first, const Raster &second)
+static Answer library_pair(decltype(mtb_pair) *call, const Settings &settings, const Raster &first,
+                           const Raster &second)
 {
     uint32_t w = settings.w, h = settings.h, s = settings.s;
     static std::vector<uint8_t> grey;
@@ -20,15 +21,25 @@ Answer library_pair(const Settings &settings, const Raster &first, const Raster 
     Answer answer;
     answer.counts.resize(9 * (s + 1));
     int32_t dx = 0, dy = 0;
-    uint32_t refusal = mtb_pair(w, h, s, settings.tolerance, settings.percentile, first.data(), first.size(),
-                                second.data(), second.size(), &dx, &dy, answer.counts.data(), answer.counts.size(),
-                                grey.data(), grey.size(), words.data(), words.size());
+    uint32_t refusal = call(w, h, s, settings.tolerance, settings.percentile, first.data(), first.size(),
+                            second.data(), second.size(), &dx, &dy, answer.counts.data(), answer.counts.size(),
+                            grey.data(), grey.size(), words.data(), words.size());
     if (refusal != 0) {
         std::fprintf(stderr, "accuracy: %u by %u, s = %u refused by %u\n", w, h, s, refusal);
         std::exit(1);
     }
     answer.offset = {dx, dy};
     return answer;
+}
+
+Answer ward_pair(const Settings &settings, const Raster &first, const Raster &second)
+{
+    return library_pair(mtb_pair_ward, settings, first, second);
+}
+
+Answer least_move_pair(const Settings &settings, const Raster &first, const Raster &second)
+{
+    return library_pair(mtb_pair, settings, first, second);
 }
 
 #ifdef WITH_OPENCV

@@ -23,8 +23,10 @@ struct Answer {
     bool operator==(const Answer &other) const { return offset == other.offset && counts == other.counts; }
 };
 
-// Ends the program with a message when the library refuses: every pair here is meant to be accepted.
-Answer library_pair(const Settings &settings, const Raster &first, const Raster &second);
+// The library's two pair calls. Among a level's equal counts mtb_pair_ward takes the first in Ward's order, mtb_pair the
+// least move. They end the program with a message when the library refuses: every pair here is meant to be accepted.
+Answer ward_pair(const Settings &settings, const Raster &first, const Raster &second);
+Answer least_move_pair(const Settings &settings, const Raster &first, const Raster &second);
 
 // Null when the program was built without OpenCV.
 const char *opencv_version();

@@ -32,13 +32,17 @@ std::string look(const SceneKind &kind, const Tone &tone, int noise)
     return kind.name + "\t" + tone.name + "\t" + std::to_string(noise);
 }
 
-void print_line(const char *experiment, const std::string &look, const Settings &settings, Move truth,
-                const Answer &ours, Move theirs)
+// Aligns a pair by both of the library's calls. A line has the offsets (the true one, Ward's order, the least move,
+// OpenCV), then the counts by Ward's order.
+void try_pair(const char *experiment, const std::string &look, const Settings &settings, const Pair &pair, Move theirs)
 {
-    std::printf("%s\t%d\t%s\t%d\t%d\t%d\t%d\t%d\t%d\t%d\t%d\t%d\t", experiment, settings.w, look.c_str(), settings.s,
-                settings.tolerance, settings.percentile, truth.dx, truth.dy, ours.offset.dx, ours.offset.dy, theirs.dx,
-                theirs.dy);
-    for (uint32_t count : ours.counts)
+    Answer ward = ward_pair(settings, pair.first, pair.second);
+    Answer least_move = least_move_pair(settings, pair.first, pair.second);
+    std::printf("%s\t%d\t%s\t%d\t%d\t%d\t", experiment, settings.w, look.c_str(), settings.s, settings.tolerance,
+                settings.percentile);
+    for (Move move : {pair.truth, ward.offset, least_move.offset, theirs})
+        std::printf("%d\t%d\t", move.dx, move.dy);
+    for (uint32_t count : ward.counts)
         std::printf("%u ", count);
     std::printf("\n");
 }
@@ -51,7 +55,7 @@ void try_settings(const std::string &look, Settings settings, const Pair &pair)
         Move theirs = opencv_pair(settings, pair.first, pair.second);
         for (int percentile : all_percentiles) {
             settings.percentile = percentile;
-            print_line("pair", look, settings, pair.truth, library_pair(settings, pair.first, pair.second), theirs);
+            try_pair("pair", look, settings, pair, theirs);
         }
     }
 }
@@ -81,12 +85,12 @@ void try_hopeless(const SceneKind &kind, const Tone &tone, Random random)
             Settings settings = {w, h, s, 0, 50};
             Move truth = {random.whole(reach + 1, largest_move), random.whole(-largest_move, largest_move)};
             Pair pair = take_pair(scene, margin, w, h, truth, tone, noise, random);
-            print_line("beyond", look(kind, tone, noise), settings, truth, library_pair(settings, pair.first, pair.second),
-                       opencv_pair(settings, pair.first, pair.second));
+            try_pair("beyond", look(kind, tone, noise), settings, pair,
+                     opencv_pair(settings, pair.first, pair.second));
             Pair stranger = take_pair(other, margin, w, h, truth, tone, noise, random);
-            print_line("unrelated", look(kind, tone, noise), settings, truth,
-                       library_pair(settings, pair.first, stranger.second),
-                       opencv_pair(settings, pair.first, stranger.second));
+            stranger.first = pair.first;
+            try_pair("unrelated", look(kind, tone, noise), settings, stranger,
+                     opencv_pair(settings, stranger.first, stranger.second));
         }
 }
 

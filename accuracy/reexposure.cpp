@@ -99,14 +99,17 @@ void compare(const std::string &scene, int noise, const Pair &pair, const std::v
         for (int tolerance : {0, 1, 4})
             for (int percentile : {17, 50, 83}) {
                 Settings settings = {w, h, s, tolerance, percentile};
-                Answer ours = library_pair(settings, pair.first, pair.second);
-                Answer again = library_pair(settings, after.first, after.second);
+                Answer ward = ward_pair(settings, pair.first, pair.second);
+                Answer ward_again = ward_pair(settings, after.first, after.second);
+                Answer least_move = least_move_pair(settings, pair.first, pair.second);
+                Answer least_move_again = least_move_pair(settings, after.first, after.second);
                 Move theirs = opencv_pair(settings, pair.first, pair.second);
                 Move theirs_again = opencv_pair(settings, after.first, after.second);
-                std::printf("reexposed\t%s\t%s\t%d\t%d\t%d\t%d\t%d\t%d\t%d\t%d\t%d\n", scene.c_str(),
+                std::printf("reexposed\t%s\t%s\t%d\t%d\t%d\t%d\t%d\t%d\t%d\t%d\t%d\t%d\n", scene.c_str(),
                             reexposure.name.c_str(), merges(reexposure.first) || merges(reexposure.second), noise,
-                            tolerance, percentile, ours == again, ours.offset == again.offset,
-                            ours.offset == pair.truth, again.offset == pair.truth, theirs == theirs_again);
+                            tolerance, percentile, ward == ward_again, least_move == least_move_again,
+                            ward.offset == ward_again.offset, ward.offset == pair.truth, ward_again.offset == pair.truth,
+                            theirs == theirs_again);
             }
     }
 }

@@ -4,8 +4,10 @@ report.py SEED FOLDER: reads FOLDER/measured.tsv and FOLDER/scenes.pgm, prints t
 to docs/ only for the default seed and with OpenCV measured, so that docs/ACCURACY.md is what `accuracy/run` gives.
 """
 import collections
+import operator
 import os
 import re
+import statistics
 import struct
 import sys
 import zlib
@@ -17,8 +19,10 @@ STARS = SKY[1:]
 HAZE = "flat haze"
 CALLS_A_PAIR = 15  # five tolerances, three percentiles
 
-Trial = collections.namedtuple("Trial", "w scene tone noise s T P truth ours theirs levels")
-Reexposed = collections.namedtuple("Reexposed", "scene curve merges noise T P same same_offset before after theirs")
+# Offsets: true, Ward's order (mtb_pair_ward), least move (mtb_pair), OpenCV; levels has the counts of mtb_pair_ward.
+Trial = collections.namedtuple("Trial", "w scene tone noise s T P truth ward least theirs levels")
+Reexposed = collections.namedtuple(
+    "Reexposed", "scene curve merges noise T P same same_least same_offset before after theirs")
 
 
 def read(path):
@@ -43,12 +47,21 @@ def off(found, truth):
     return max(abs(found[0] - truth[0]), abs(found[1] - truth[1]))
 
 
+def size(move):
+    return off(move, (0, 0))
+
+
 def reach(trial):
     return 2 ** (trial.s + 1) - 1
 
 
 def at_rim(trial):
-    return reach(trial) in map(abs, trial.ours)
+    return reach(trial) in map(abs, trial.ward)
+
+
+def tied(trial):
+    """Some level's least count stands more than once: only then can the two orders differ."""
+    return any(row.count(min(row)) > 1 for row in trial.levels)
 
 
 def clear(trial, numerator=3, denominator=4):
@@ -70,6 +83,36 @@ def values(trials, key):
     return list(dict.fromkeys(key(t) for t in trials))
 
 
+# Where the true offset lies, as seen from (0, 0), and how far out.
+TRUTHS = (
+    ("up and left", lambda t: max(t.truth) < 0),
+    ("down and right", lambda t: min(t.truth) > 0),
+    ("in the other two quarters", lambda t: min(t.truth) < 0 < max(t.truth)),
+    ("on an axis", lambda t: 0 in t.truth),
+    ("up to half of the reach", lambda t: 2 * size(t.truth) <= reach(t)),
+    ("up to three quarters", lambda t: 2 * reach(t) < 4 * size(t.truth) <= 3 * reach(t)),
+    ("beyond three quarters", lambda t: 4 * size(t.truth) > 3 * reach(t)),
+)
+# Of how far the weak calls are off.
+FIGURES = (
+    ("mean off", lambda offs: f"{statistics.mean(offs):.1f}"),
+    ("median off", lambda offs: f"{statistics.median(offs):g}"),
+    ("exact", lambda offs: offs.count(0)),
+    ("at most one off", lambda offs: offs.count(0) + offs.count(1)),
+    ("more than 8 off", lambda offs: sum(v > 8 for v in offs)),
+)
+WEAK_HEAD = ["weak calls", *(name for name, _ in FIGURES), "offsets differ", "nearer"]
+
+
+def weak_row(name, trials):
+    """Where counts tie: how far from the true offset the least move / Ward's order ends."""
+    weak = [t for t in trials if tied(t)]
+    least, ward = [off(t.least, t.truth) for t in weak], [off(t.ward, t.truth) for t in weak]
+    figures = [f"{figure(least)} / {figure(ward)}" if weak else "–" for _, figure in FIGURES]
+    nearer = f"{sum(map(operator.lt, least, ward))} / {sum(map(operator.gt, least, ward))}"
+    return [name, f"{len(weak)} of {len(trials)}", *figures, sum(t.least != t.ward for t in weak), nearer]
+
+
 class Report:
     def __init__(self, opencv, trials, reexposed):
         self.opencv, self.trials, self.reexposed = opencv, trials["pair"], reexposed
@@ -78,7 +121,7 @@ class Report:
 
     def cell(self, trials, within=0):
         """Hits of the library and of OpenCV."""
-        ours = sum(off(t.ours, t.truth) <= within for t in trials)
+        ours = sum(off(t.ward, t.truth) <= within for t in trials)
         theirs = sum(off(t.theirs, t.truth) <= within for t in trials)
         return f"{ours} / {theirs if self.opencv else '–'}"
 
@@ -93,7 +136,7 @@ class Report:
         self.parts[name + " of"] = len(next(iter(groups.values())))
 
     def ours(self, trials):
-        return sum(t.ours == t.truth for t in trials)
+        return sum(t.ward == t.truth for t in trials)
 
     def tolerances(self):
         trials = [t for t in self.trials if t.w == 640 and t.P == 50 and t.s == 4]
@@ -124,14 +167,36 @@ class Report:
                       self.ours)
 
     def haze(self):
+        """At which end each order stays, and how far it moves: the least move / Ward's order."""
         trials = [t for t in self.trials if t.scene == HAZE and t.P == 50]
-        self.hits("haze", trials, lambda t: f"noise {t.noise}", lambda t: t.T, "flat haze", "T = {}",
-                  lambda group: sum(t.ours == (-reach(t), -reach(t)) for t in group))
+        table = lambda name, some, cell: self.hits(name, some, lambda t: f"noise {t.noise}", lambda t: t.T, "flat haze",
+                                                   "T = {}", cell)
+        table("haze", trials, lambda group: f"{sum(t.least == (0, 0) for t in group)} / "
+                                            f"{sum(t.ward == (-reach(t), -reach(t)) for t in group)}")
+        mean = lambda moves: f"{statistics.mean(map(size, moves)):.1f}"
+        table("haze size", [t for t in trials if t.s == 4],
+              lambda group: f"{mean(t.least for t in group)} / {mean(t.ward for t in group)}")
+
+    def weak(self):
+        """Both orders where counts tie. Where none do they must agree."""
+        untied = [t for t in self.trials if not tied(t)]
+        if any(t.least != t.ward for t in untied):
+            sys.exit("accuracy: the two orders differ where no least count stands twice")
+        trials = [t for t in self.trials if t.P == 50 and 2 <= t.s <= 4]
+        scenes = [t for t in trials if t.scene != HAZE]
+        kind = lambda t: f"{t.scene}, noise {t.noise}" if t.scene == HAZE else t.scene
+        self.parts["weak"] = markdown(["scene", *WEAK_HEAD], [
+            weak_row(v, [t for t in trials if kind(t) == v]) for v in values(trials, kind)])
+        self.parts["weak truths"] = markdown(["true offset", *WEAK_HEAD], [
+            weak_row(name, list(filter(test, scenes))) for name, test in TRUTHS])
+        self.parts["tied"], self.parts["untied"] = len(self.trials) - len(untied), len(untied)
+        self.parts["least right"] = sum(t.least == t.truth for t in self.trials)
+        self.parts["ward right"] = self.ours(self.trials)
 
     @staticmethod
     def told(trials, rule=clear):
         """Calls; told clear: right, off by one, worse; told unclear: right all the same, wrong."""
-        count = collections.Counter((bool(rule(t)), min(2, off(t.ours, t.truth))) for t in trials)
+        count = collections.Counter((bool(rule(t)), min(2, off(t.ward, t.truth))) for t in trials)
         return [len(trials), count[True, 0], count[True, 1], count[True, 2], count[False, 0],
                 count[False, 1] + count[False, 2]]
 
@@ -171,7 +236,7 @@ class Report:
             for i in range(0, len(self.trials), CALLS_A_PAIR):
                 pair = {t.P: t for t in self.trials[i:i + CALLS_A_PAIR] if t.T == 0}
                 taken = next((pair[P] for P in order if clear(pair[P])), None)
-                count["none" if taken is None else min(2, off(taken.ours, taken.truth))] += 1
+                count["none" if taken is None else min(2, off(taken.ward, taken.truth))] += 1
             rows.append([name, count[0], count[1], count[2], count["none"]])
         self.parts["asking"] = markdown(["asked at T = 0", "right", "one off", "worse", "no clear answer"], rows)
         self.parts["asking of"] = len(self.trials) // CALLS_A_PAIR
@@ -183,7 +248,7 @@ class Report:
         for curve, group in groups.items():
             at = {T: [r for r in group if r.T == T] for T in (0, 1, 4)}
             same = [sum(r.same for r in at[T]) for T in (0, 1, 4)]
-            if not group[0].merges and same[0] != len(at[0]):
+            if not group[0].merges and not all(r.same and r.same_least for r in at[0]):
                 sys.exit(f"accuracy: {curve} merges nothing, but changed an answer at T = 0: the theorem says it cannot")
             median = [r for r in at[0] if r.P == 50]
             theirs = f"{sum(r.theirs for r in median)} of {len(median)}" if self.opencv else "–"
@@ -201,16 +266,16 @@ class Report:
         if trial is None:
             self.parts[name] = "(no such pair in this run)"
             return
-        lines = [f"offset {trial.ours[0]} {trial.ours[1]}"]
+        lines = [f"offset {trial.ward[0]} {trial.ward[1]}"]
         lines += [f"{trial.s - k}: {' '.join(map(str, row))}" for k, row in enumerate(trial.levels)]
         title = (f"{trial.scene}, tone *{trial.tone}*, noise {trial.noise}; s = {trial.s}, T = {trial.T}, P = {trial.P}; "
-                 f"true offset {trial.truth[0]} {trial.truth[1]}:")
+                 f"true offset {trial.truth[0]} {trial.truth[1]}, `mtb_pair` gives {trial.least[0]} {trial.least[1]}:")
         self.parts[name] = "\n".join([title[0].upper() + title[1:], "```", *lines, "```"])
 
     def examples(self):
         def wanted(scene, tone, noise, T, right):
-            return lambda t: (t[:7] == (640, scene, tone or t.tone, noise, 3, T, 50) and (t.ours == t.truth) == right
-                              and clear(t) == right and (right or off(t.ours, t.truth) > 1))
+            return lambda t: (t[:7] == (640, scene, tone or t.tone, noise, 3, T, 50) and (t.ward == t.truth) == right
+                              and clear(t) == right and (right or off(t.ward, t.truth) > 1))
         self.example("example clear", wanted("leaves", "under, over", 2, 1, True))
         self.example("example tie", wanted("soft hills", "same", 0, 8, False))
         self.example("example level", wanted("sparse stars", None, 2, 0, False))
@@ -220,8 +285,8 @@ class Report:
         self.parts["opencv"] = self.opencv or "(not installed for this run)"
         self.parts["pairs"] = len(self.trials) // CALLS_A_PAIR
         self.parts["calls"] = len(self.trials)
-        for part in (self.tolerances, self.halvings, self.tones, self.noises, self.percentiles, self.haze, self.rule,
-                     self.hopeless, self.asking_again, self.reexposure, self.examples):
+        for part in (self.tolerances, self.halvings, self.tones, self.noises, self.percentiles, self.haze, self.weak,
+                     self.rule, self.hopeless, self.asking_again, self.reexposure, self.examples):
             part()
         return self.parts
 

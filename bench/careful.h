@@ -1,5 +1,5 @@
-/* The careful C program that the library is measured against: the same rules and the same lent memory,
- * inputs taken on trust. The header says what each buffer holds; the library's own is include/mtb.h. */
+/* The careful C program that the library is measured against: the same rules, Ward's order among equal counts, the same
+ * lent memory, inputs taken on trust. The header says what each buffer holds; the library's own is include/mtb.h. */
 #ifndef CAREFUL_H
 #define CAREFUL_H
 

@@ -36,7 +36,7 @@ typedef void aligner(const struct job *, const struct memory *, struct answer *)
 struct contestant {
     const char *name;
     aligner *run;
-    int tells_counts; /* it follows document 01, so its offsets and counts are compared */
+    int compared; /* it follows document 01 and Ward's order, so its offsets and counts are compared */
 };
 
 extern const struct contestant contestants[];

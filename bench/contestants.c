@@ -10,25 +10,38 @@
 
 static size_t raster_len(const struct job *j) { return (size_t)3 * j->w * j->h; }
 
-/* The library's pair call for a pair, its series call otherwise. */
-static void library(const struct job *j, const struct memory *m, struct answer *a)
+/* A pair call of the library for a pair, a series call otherwise. */
+static void call_library(__typeof__(mtb_pair) *pair, __typeof__(mtb_series) *series, const struct job *j,
+                         const struct memory *m, struct answer *a)
 {
     size_t len = raster_len(j), levels = j->s + 1;
     uint32_t refused;
     if (j->n == 2) {
         a->offsets[0] = a->offsets[1] = 0;
-        refused = mtb_pair(j->w, j->h, j->s, j->tolerance, j->percentiles[0], j->rasters, len, j->rasters + len, len,
-                           &a->offsets[2], &a->offsets[3], a->counts, CANDIDATES * levels, m->grey, m->grey_len,
-                           m->words, m->words_len);
+        refused = pair(j->w, j->h, j->s, j->tolerance, j->percentiles[0], j->rasters, len, j->rasters + len, len,
+                       &a->offsets[2], &a->offsets[3], a->counts, CANDIDATES * levels, m->grey, m->grey_len,
+                       m->words, m->words_len);
     } else {
-        refused = mtb_series(j->w, j->h, j->s, j->tolerance, j->n, 0, j->percentiles, j->n - 1, j->rasters, j->n * len,
-                             a->offsets, 2 * j->n, a->counts, CANDIDATES * levels * (j->n - 1), m->grey, m->grey_len,
-                             m->words, m->words_len);
+        refused = series(j->w, j->h, j->s, j->tolerance, j->n, 0, j->percentiles, j->n - 1, j->rasters, j->n * len,
+                         a->offsets, 2 * j->n, a->counts, CANDIDATES * levels * (j->n - 1), m->grey, m->grey_len,
+                         m->words, m->words_len);
     }
     if (refused != 0) {
         fprintf(stderr, "the library refused %u by %u, s = %u: number %u\n", j->w, j->h, j->s, refused);
         exit(1);
     }
+}
+
+/* The calls that keep Ward's order, as the careful C program and OpenCV do. */
+static void library(const struct job *j, const struct memory *m, struct answer *a)
+{
+    call_library(mtb_pair_ward, mtb_series_ward, j, m, a);
+}
+
+/* The calls that prefer the least move. */
+static void least_move(const struct job *j, const struct memory *m, struct answer *a)
+{
+    call_library(mtb_pair, mtb_series, j, m, a);
 }
 
 static void careful(const struct job *j, const struct memory *m, struct answer *a)
@@ -52,6 +65,7 @@ static void copy(const struct job *j, const struct memory *m, struct answer *a)
 
 const struct contestant contestants[] = {
     {"library", library, 1},
+    {"least move", least_move, 0},
     {"careful C", careful, 1},
 #ifdef WITH_OPENCV
     {"OpenCV", opencv_align, 0},

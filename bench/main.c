@@ -4,7 +4,7 @@
  *   contest agree JOBS            compares the library with the careful C program on random small frames
  *   contest time                  times every job, a line each contestant; freed memory is kept
  *   contest default W H S         times one pair; freed memory goes back as the C library does by itself
- *   contest once NAME W H S       one pair by one contestant inside `measured`, for callgrind
+ *   contest once NAME W H S N     N frames by one contestant inside `measured`, for callgrind
  *
  * Results go to standard output, as words with tabs between.
  */
@@ -18,7 +18,7 @@
 #include "scene.h"
 #include "timing.h"
 
-enum { SEED = 2024, TOLERANCE = 4, PERCENTILE = 50, LEAST_TURNS = 15, MAX_CONTESTANTS = 4 };
+enum { SEED = 2024, TOLERANCE = 4, PERCENTILE = 50, LEAST_TURNS = 15, MAX_CONTESTANTS = 5 };
 
 /* What a timed job shows: the made scene, or random bytes, in which no word of a bitmap is empty. */
 enum content { SCENE, NOISE };
@@ -71,13 +71,13 @@ static int same(const struct job *j, const struct answer *a, const struct answer
            && memcmp(a->counts, b->counts, CANDIDATES * (j->s + 1) * (j->n - 1) * sizeof a->counts[0]) == 0;
 }
 
-/* Runs every contestant once, which also warms caches, and compares those that tell counts with the first. */
+/* Runs every contestant once, which also warms caches, and compares those that are to agree with the first. */
 static void compare(const struct job *j, const struct memory *m, struct answer answers[])
 {
     for (size_t c = 0; c < contestants_len; c++) {
         memset(&answers[c], 0, sizeof answers[c]);
         contestants[c].run(j, m, &answers[c]);
-        if (contestants[c].tells_counts && !same(j, &answers[0], &answers[c])) {
+        if (contestants[c].compared && !same(j, &answers[0], &answers[c])) {
             fprintf(stderr, "%s: %u by %u, s = %u, T = %u\n", contestants[c].name, j->w, j->h, j->s, j->tolerance);
             fail("offsets or counts differ from the library's");
         }
@@ -233,10 +233,9 @@ __attribute__((noinline)) void measured(const struct contestant *c, const struct
     __asm__ volatile("" ::: "memory"); /* so that the call is no jump */
 }
 
-static void once(const char *name, uint32_t w, uint32_t h, uint32_t s)
+static void once(const char *name, struct job j)
 {
     static struct answer a;
-    struct job j = job_of(w, h, s, 2);
     struct memory m = lend(&j);
     uint8_t *rasters = frames(&j, SCENE, SEED);
     j.rasters = rasters;
@@ -265,9 +264,9 @@ int main(int argc, char **argv)
         time_all();
     else if (argc == 5 && strcmp(mode, "default") == 0)
         time_job("default", job_of(number(argv[2]), number(argv[3]), number(argv[4]), 2), SCENE);
-    else if (argc == 6 && strcmp(mode, "once") == 0)
-        once(argv[2], number(argv[3]), number(argv[4]), number(argv[5]));
+    else if (argc == 7 && strcmp(mode, "once") == 0)
+        once(argv[2], job_of(number(argv[3]), number(argv[4]), number(argv[5]), number(argv[6])));
     else
-        fail("usage: contest about | agree JOBS | time | default W H S | once NAME W H S");
+        fail("usage: contest about | agree JOBS | time | default W H S | once NAME W H S N");
     return 0;
 }

@@ -1,7 +1,7 @@
 #!/usr/bin/env python3
 """Writes docs/BENCHMARK.md and docs/benchmark.svg from what bench/run measured, and prints the ratios.
 
-usage: report.py MEASURED DOCS     (MEASURED has results.tsv and the profiles callgrind.PROGRAM.NAME.txt)
+usage: report.py MEASURED DOCS     (MEASURED has results.tsv and the profiles callgrind.PROGRAM.NAME-JOB.txt)
 """
 import math
 import os
@@ -13,14 +13,16 @@ import plot
 
 LIBRARY, CAREFUL, OPENCV, MEMCPY = "library", "careful C", "OpenCV", "memcpy"
 NAMES = (LIBRARY, CAREFUL, OPENCV, MEMCPY)
+LEAST_MOVE = "least move"  # the library's calls in the other order
+CALLS = {2: ("mtb_pair_ward", "mtb_pair"), 9: ("mtb_series_ward", "mtb_series")}  # by frames: LIBRARY's and LEAST_MOVE's
+BOTH_ORDERS = ((640, 480), (1920, 1080))  # the sizes at which the two orders are compared
 ASKED = ((640, 480), (1920, 1080), (4096, 4096))  # the sizes of our goals
 LARGE = 1920 * 1080  # goals against OpenCV and memcpy hold from here on
-COUNTED = 640 * 480  # pixels of the frames whose instructions are counted
 WINDOW = 65 * 65  # moves of the window of single difference calls
 
 # A function of a profile belongs to the first step whose pattern its name has.
 STEPS = (
-    ("grey", r"to_grey|convert|mtb_pair|align_rasters|pair::pair$"),
+    ("grey", r"to_grey|convert|mtb_pair|align_rasters|pair_in_order|pair::pair"),
     ("halving", r"halv"),
     ("histogram and threshold", r"threshold_of|histogram|count_fours|bitmaps_within"),
     ("bitmaps", r"pack"),
@@ -29,6 +31,7 @@ STEPS = (
 )
 
 Job = namedtuple("Job", "content w h n s")
+COUNTED = Job("scene", 640, 480, 2, 6)  # the pair whose instructions are told by step
 # milliseconds; the last frame's offset, found and true; how many times the library's time, the median over the turns
 Time = namedtuple("Time", "median least turns offset true to_library")
 # all moves of the window: milliseconds, and how many times the library's time
@@ -37,14 +40,14 @@ Calls = namedtuple("Calls", "median least to_library")
 
 class Results:
     """What was measured: times[job][name] with freed memory kept, default[job][name] with the C library's own ways,
-    window[name] of single difference calls, facts, agreement, and the profiles of a pair and of a window."""
+    window[name] of single difference calls, facts, agreement, and the profiles in the folder."""
 
     def __init__(self, folder):
+        self.folder = folder
         self.times, self.default, self.window, self.facts, self.agreed = {}, {}, {}, {}, (0, 0)
         with open(os.path.join(folder, "results.tsv")) as lines:
             for line in lines:
                 self.take(line.rstrip("\n").split("\t"))
-        self.profiles, self.window_profiles = profiles(folder, "contest"), profiles(folder, "window")
 
     def take(self, words):
         kind = words[0]
@@ -61,6 +64,15 @@ class Results:
             table = self.times if kind == "time" else self.default
             job = Job(words[1], w, h, n, s)
             table.setdefault(job, {})[words[6]] = Time(median, least, int(words[9]), offset, true, float(words[14]))
+
+    def profile(self, program, *words):
+        """Instructions by function, of a contestant's name and the numbers of its job."""
+        job = "-".join(map(str, words)).replace(" ", "-")
+        return profile(os.path.join(self.folder, f"callgrind.{program}.{job}.txt"))
+
+    def instructions(self, job, name):
+        """Instructions by function of one pair or series."""
+        return self.profile("contest", name, job.w, job.h, job.s, job.n)
 
     def ratio(self, job, a, b):
         return ratio(self.times[job], a, b)
@@ -98,12 +110,6 @@ def profile(path):
     return counts
 
 
-def profiles(folder, program):
-    """Instructions by contestant and function."""
-    files = {name: f"callgrind.{program}.{name.replace(' ', '')}.txt" for name in NAMES}
-    return {name: profile(os.path.join(folder, file)) for name, file in files.items()}
-
-
 def step_of(function):
     return next(step for step, pattern in STEPS if re.search(pattern, function))
 
@@ -112,7 +118,7 @@ def steps(counts):
     """Instructions a pixel by step."""
     total = dict.fromkeys((step for step, _ in STEPS), 0)
     for function, n in counts.items():
-        total[step_of(function)] += n / COUNTED
+        total[step_of(function)] += n / pixels(COUNTED)
     return total
 
 
@@ -171,6 +177,24 @@ def series_table(results):
     return table(["series", *TIMES, *RATIOS], rows)
 
 
+def call_cells(results, job, name):
+    """A call's time, how many times the kept call's time it takes, and its instructions a pixel and pair."""
+    times, counted = results.times[job], sum(results.instructions(job, name).values())
+    return [milliseconds(times[name].median), shown(ratio(times, name, LIBRARY)),
+            f"{counted / pixels(job) / (job.n - 1):.2f}" if counted else "–"]
+
+
+def order_table(results):
+    """A row each call, in both orders."""
+    rows = []
+    for n, calls in CALLS.items():
+        for call, name in zip(calls, (LIBRARY, LEAST_MOVE)):
+            cells = [call_cells(results, Job("scene", w, h, n, 6), name) for w, h in BOTH_ORDERS]
+            rows.append([f"`{call}`, {n} frames", *sum(cells, [])])
+    head = [f"{w}×{h}, {what}" for w, h in BOTH_ORDERS for what in ("ms", "ratio to the kept call", "instructions a pixel")]
+    return table(["call, s = 6", *head], rows)
+
+
 def s_table(results):
     jobs = results.by_s()
     rows = [[name, *(milliseconds(results.times[j][name].least) for j in jobs)] for name in (LIBRARY, CAREFUL)]
@@ -178,14 +202,15 @@ def s_table(results):
 
 
 def instruction_table(results):
-    counted = {name: steps(results.profiles[name]) for name in (LIBRARY, CAREFUL) if results.profiles[name]}
+    profiles = {name: results.instructions(COUNTED, name) for name in (LIBRARY, CAREFUL, OPENCV)}
+    counted = {name: steps(profiles[name]) for name in (LIBRARY, CAREFUL) if profiles[name]}
     if not counted:
         return "(valgrind was not installed.)"
     rows = [[step, *(f"{counted[name][step]:.2f}" for name in counted)] for step, _ in STEPS]
     rows.append(["**all**", *(f"**{sum(counted[name].values()):.1f}**" for name in counted)])
     text = table(["step", *counted], rows)
-    if results.profiles[OPENCV]:
-        total = sum(results.profiles[OPENCV].values()) / COUNTED
+    if profiles[OPENCV]:
+        total = sum(profiles[OPENCV].values()) / pixels(COUNTED)
         text += f"\n\nOpenCV: {total:.1f} (valgrind shows it a processor without AVX-512)."
     return text
 
@@ -193,7 +218,8 @@ def instruction_table(results):
 def window_table(results):
     rows = []
     for name, calls in results.window.items():
-        counted = sum(results.window_profiles[name].values()) / (WINDOW * COUNTED)
+        profiled = results.profile("window", name, COUNTED.w, COUNTED.h)
+        counted = sum(profiled.values()) / (WINDOW * pixels(COUNTED))
         rows.append([name, milliseconds(calls.median), milliseconds(calls.least), f"{calls.median * 1e3 / WINDOW:.1f}",
                      f"{1 / calls.to_library:.2f}", f"{counted:.2f}" if counted else "–"])
     head = ["640×480, 65×65 moves", "median, ms", "fastest, ms", "a call, µs", "library / this", "instructions a pixel"]
@@ -293,7 +319,7 @@ def reaches(job, true):
 def offsets_line(results):
     """Which contestants found the true offset of the scene's last frame, where s lets them."""
     said = []
-    for name in (LIBRARY, OPENCV):
+    for name in (LIBRARY, LEAST_MOVE, OPENCV):
         jobs = [(j, t[name]) for j, t in results.times.items() if j.content == "scene" and name in t and reaches(j, t[name].true)]
         wrong = [f"{size(j)}, n = {j.n}, s = {j.s}" for j, t in jobs if t.offset != t.true]
         if jobs:
@@ -311,6 +337,7 @@ def document(results):
         "goals": table(["goal", "measured", ""], goals(results)),
         "pairs": pair_table(results),
         "series": series_table(results),
+        "orders": order_table(results),
         "default": default_table(results),
         "window": window_table(results),
         "s": s_table(results),
@@ -338,7 +365,8 @@ def main():
         f.write(document(results))
     with open(os.path.join(docs, "benchmark.svg"), "w") as f:
         f.write(picture(results))
-    for text in (pair_table(results), default_table(results), series_table(results), window_table(results)):
+    for text in (pair_table(results), default_table(results), series_table(results), order_table(results),
+                 window_table(results)):
         print(text + "\n")
     for goal in goals(results):
         print(f"{goal.met}: {goal.text}: {goal.measured}")

@@ -40,6 +40,15 @@ flat 160 119 lower.ppm
 flat 120 160 upright.ppm
 flat 3 3 tiny.ppm
 flat 5000 1 wide.ppm
+# 32 rows of the first frame: strip ROW FILE
+strip() {
+    printf 'P6\n160 32\n255\n' >"$2"
+    tail -c +$((16 + 480 * $1)) first.ppm | head -c $((480 * 32)) >>"$2"
+}
+strip 0 strip0.ppm
+strip 11 strip1.ppm
+strip 22 strip2.ppm
+strip 33 strip3.ppm
 printf 'P5\n1 1\n255\n0' >grey.ppm
 printf 'P6\n1 1\n65535\n000000' >deep.ppm
 head -c 1000 first.ppm >cut.ppm
@@ -97,13 +106,19 @@ set -- flat.ppm flat.ppm flat.ppm flat.ppm
 expect 1 'the series: refused (6): there are more than 16 frames' align "$@" "$@" "$@" "$@" flat.ppm
 expect 1 'the series: refused (7): the reference is none of the frames' align -r 4 "$@"
 expect 1 'the series: refused (8): the percentile is not 17, 50 or 83' align -p 51 "$@"
-# Ward's order gives flat frames the corner: far enough off in a series that nothing is left in common.
-expect 1 '16 by 16 pixels, s = 2, T = 0, P = 50, r = 0
+# Flat frames stay where they are.
+expect 0 '16 by 16 pixels, s = 2, T = 0, P = 50, r = 0
     0     0  flat.ppm
-   -7    -7  flat.ppm
-  -14   -14  flat.ppm
-  -21   -21  flat.ppm
-the common area: refused (13): the frames show no area in common' align -s 2 -r 0 "$@"
+    0     0  flat.ppm
+    0     0  flat.ppm
+    0     0  flat.ppm
+common area: 16 by 16, columns 0 to 15, rows 0 to 15' align -s 2 -r 0 "$@"
+expect 1 '160 by 32 pixels, s = 3, T = 0, P = 50, r = 0
+    0     0  strip0.ppm
+    0    11  strip1.ppm
+    0    22  strip2.ppm
+    0    33  strip3.ppm
+the common area: refused (13): the frames show no area in common' align -s 3 strip0.ppm strip1.ppm strip2.ppm strip3.ppm
 
 # Memory runs out; not under the sanitizers, which need much of it themselves.
 flat 4096 4096 large.ppm

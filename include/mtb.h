@@ -45,8 +45,8 @@
  *
  * STACK
  *   Bytes, with stacked arguments and return address:
- *     mtb_pair        5752 + 368*s, so 8696 at most     mtb_threshold    4160
- *     mtb_series      5960 + 368*s, so 8904 at most     mtb_difference   1008
+ *     mtb_pair, mtb_pair_ward        5752 + 368*s, so 8696 at most     mtb_threshold    4160
+ *     mtb_series, mtb_series_ward    5960 + 368*s, so 8904 at most     mtb_difference   1008
  *     every other function: below 400
  *   Measured, not proved (tests/outside/run stack): each call was run on a painted stack, and the deepest changed
  *   byte was looked for, over frames from 1 by 1 to 4096 by 4096 with every s that they allow and
@@ -155,8 +155,10 @@ uint32_t mtb_difference(uint32_t w, uint32_t h, int32_t dx, int32_t dy,
 /*
  * The offset (*dx, *dy) that moves the second raster onto the first, and the difference counts that
  * led to it. counts: 9*(s+1) numbers, nine a level, the coarsest level first. A level's nine are those
- * of the moves (cx + i, cy + j), i from -1 to 1 and within each i j from -1 to 1; the first with the
- * least count is the level's answer. (cx, cy) is twice the answer of the level before, at first (0, 0).
+ * of the moves (cx + i, cy + j), i from -1 to 1 and within each i j from -1 to 1; (cx, cy) is twice the
+ * answer of the level before, at first (0, 0). The move with the least count is the level's answer.
+ * Among equal ones mtb_pair prefers the least step (i, j): (0,0), (-1,0), (1,0), (0,-1), (0,1), (-1,-1),
+ * (-1,1), (1,-1), (1,1), so that blank sky, where all counts are equal, does not move the mount.
  * grey, words: work memory, as long as mtb_grey_needed and mtb_words_needed tell, or longer; what it
  * holds afterwards means nothing. Refusals: 2, 3, 4, 5, 8, 9, 10, 11.
  */
@@ -185,7 +187,29 @@ uint32_t mtb_series(uint32_t w, uint32_t h, uint32_t s, uint32_t tolerance, uint
                     uint64_t *words, size_t words_len);
 
 /*
- * The work memory of mtb_pair and mtb_series. Bytes of grey: twice the pixels of all levels. Words of
+ * The same two in the order of Ward's paper, for comparison with it and with programs that follow it:
+ * among equal counts a level's answer is the first of its nine as they are written, i from -1 to 1 and
+ * within each i j from -1 to 1. Blank sky then gives -(2^(s+1) - 1) on both axes, as far as it goes.
+ * Nothing else differs from mtb_pair and mtb_series.
+ */
+uint32_t mtb_pair_ward(uint32_t w, uint32_t h, uint32_t s, uint32_t tolerance, uint32_t percentile,
+                       const uint8_t *first, size_t first_len,
+                       const uint8_t *second, size_t second_len,
+                       int32_t *dx, int32_t *dy,
+                       uint32_t *counts, size_t counts_len,
+                       uint8_t *grey, size_t grey_len,
+                       uint64_t *words, size_t words_len);
+
+uint32_t mtb_series_ward(uint32_t w, uint32_t h, uint32_t s, uint32_t tolerance, uint32_t n, uint32_t r,
+                         const uint32_t *percentiles, size_t percentiles_len,
+                         const uint8_t *rasters, size_t rasters_len,
+                         int32_t *offsets, size_t offsets_len,
+                         uint32_t *counts, size_t counts_len,
+                         uint8_t *grey, size_t grey_len,
+                         uint64_t *words, size_t words_len);
+
+/*
+ * The work memory of these four. Bytes of grey: twice the pixels of all levels. Words of
  * 64 bits: 6*W*h. For 1920 by 1080 and s = 6 that is 5529000 bytes and 194400 words; the most, for
  * 4096 by 4096 and s = 8, is 44739072 bytes and 1572864 words.
  * These two return 0 where refusal 2, 3 or 4 applies to w, h and s.

@@ -57,13 +57,13 @@ void fit_lengths(struct vector *v)
         v->in[i].length = frame ? area : words ? bitmap : raster;
     v->out[0] = v->call == CALL_GREY      ? area
                 : v->call == CALL_HALVE   ? (size_t)(w / 2) * (h / 2)
-                : v->call == CALL_PAIR    ? 9 * (size_t)(s + 1)
+                : is_pair(v->call)        ? 9 * (size_t)(s + 1)
                 : v->call == CALL_P6_WRITE ? 9 + digits(w) + digits(h) + raster
                 : v->call == CALL_MOVED   ? raster
                                           : bitmap;
     v->out[1] = bitmap;
     fit_memory(v, w, h, s);
-    if (v->call == CALL_SERIES)
+    if (is_series(v->call))
         fit_series(v, raster, s);
     if (v->call == CALL_AREA)
         v->in[0].length = 2 * least(v->n, MAX_N);
@@ -157,22 +157,42 @@ static void answer_difference(const struct vector *v, struct answer *a)
                                 v->in[2].data, v->in[2].length, v->in[3].data, v->in[3].length, &a->values[0]);
 }
 
-static void answer_pair(const struct vector *v, struct answer *a)
+static void ask_pair(__typeof__(ref_pair) *pair, const struct vector *v, struct answer *a)
 {
     int32_t dx = 0, dy = 0;
     uint32_t *counts = hold(a, 0, lent_counts(v->out[0]), 4 * v->out[0], true);
-    a->refusal = ref_pair(v->w, v->h, v->s, v->tolerance, v->percentile, v->in[0].data, v->in[0].length, v->in[1].data,
-                          v->in[1].length, &dx, &dy, counts, v->out[0], NULL, v->grey, NULL, v->words);
+    a->refusal = pair(v->w, v->h, v->s, v->tolerance, v->percentile, v->in[0].data, v->in[0].length, v->in[1].data,
+                      v->in[1].length, &dx, &dy, counts, v->out[0], NULL, v->grey, NULL, v->words);
     a->values[0] = (uint32_t)dx;
     a->values[1] = (uint32_t)dy;
 }
 
-static void answer_series(const struct vector *v, struct answer *a)
+static void answer_pair(const struct vector *v, struct answer *a)
+{
+    ask_pair(ref_pair, v, a);
+}
+
+static void answer_pair_ward(const struct vector *v, struct answer *a)
+{
+    ask_pair(ref_pair_ward, v, a);
+}
+
+static void ask_series(__typeof__(ref_series) *series, const struct vector *v, struct answer *a)
 {
     int32_t *offsets = hold(a, 0, lent_offsets(v->out[0]), 4 * v->out[0], true);
     uint32_t *counts = hold(a, 1, lent_counts(v->out[1]), 4 * v->out[1], true);
-    a->refusal = ref_series(v->w, v->h, v->s, v->tolerance, v->n, v->r, v->in[0].data, v->in[0].length, v->in[1].data,
-                            v->in[1].length, offsets, v->out[0], counts, v->out[1], NULL, v->grey, NULL, v->words);
+    a->refusal = series(v->w, v->h, v->s, v->tolerance, v->n, v->r, v->in[0].data, v->in[0].length, v->in[1].data,
+                        v->in[1].length, offsets, v->out[0], counts, v->out[1], NULL, v->grey, NULL, v->words);
+}
+
+static void answer_series(const struct vector *v, struct answer *a)
+{
+    ask_series(ref_series, v, a);
+}
+
+static void answer_series_ward(const struct vector *v, struct answer *a)
+{
+    ask_series(ref_series_ward, v, a);
 }
 
 static void answer_p6_read(const struct vector *v, struct answer *a)
@@ -236,7 +256,9 @@ struct answer answer_of(const struct vector *v)
         [CALL_MADE_SERIES] = answer_series,  [CALL_P6_READ] = answer_p6_read,
         [CALL_P6_WRITE] = answer_p6_write,   [CALL_AREA] = answer_area,
         [CALL_MOVED] = answer_moved,         [CALL_BLINK] = answer_blink,
-        [CALL_BRACKET] = answer_bracket,
+        [CALL_BRACKET] = answer_bracket,     [CALL_PAIR_WARD] = answer_pair_ward,
+        [CALL_SERIES_WARD] = answer_series_ward, [CALL_MADE_PAIR_WARD] = answer_pair_ward,
+        [CALL_MADE_SERIES_WARD] = answer_series_ward,
     };
     struct answer a = { 0 };
     answers[v->call](v, &a);

@@ -74,8 +74,8 @@ void break_percentile(struct vector *v)
 /* Lengths one off, and an empty slice. */
 void break_input(struct vector *v)
 {
-    uint32_t inputs = v->call == CALL_DIFFERENCE ? 4 : v->call == CALL_PAIR || v->call == CALL_BLINK ? 2 : 1;
-    struct slice *slice = &v->in[v->call == CALL_SERIES ? 1 : random_below(inputs)];
+    uint32_t inputs = v->call == CALL_DIFFERENCE ? 4 : is_pair(v->call) || v->call == CALL_BLINK ? 2 : 1;
+    struct slice *slice = &v->in[is_series(v->call) ? 1 : random_below(inputs)];
     uint32_t which = random_below(5);
     if (which > 2 || slice->length == 0)
         slice->length += 1;
@@ -87,7 +87,7 @@ void break_input(struct vector *v)
 
 void break_output(struct vector *v)
 {
-    bool two = v->call == CALL_BITMAPS || v->call == CALL_SERIES;
+    bool two = v->call == CALL_BITMAPS || is_series(v->call);
     size_t *length = &v->out[two ? random_below(2) : 0];
     *length = *length > 0 && random_below(4) ? *length - 1 : 0;
 }

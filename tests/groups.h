@@ -24,9 +24,6 @@ void make_noise(uint64_t seed);
 /* Puts the bytes among them into the file's pool, for records that take parts anywhere. */
 void keep_noise(void);
 
-/* The name of a group in several files. */
-#define EXAMPLES "document 01: worked examples that are not proved"
-
 /* A way to make a refusal number apply: to sizes and settings, or, after these have given the lengths, to slices. */
 struct breaker {
     uint32_t number;

@@ -1,10 +1,71 @@
-/* Pairs and series: stored scenes, made frames, re-exposed brackets, and document 01's worked examples. */
+/* Pairs and series in both orders: stored scenes, made frames, re-exposed brackets, ties, and the documents' worked examples. */
 #include "groups.h"
 
+#include <stdio.h>
 #include <stdlib.h>
 #include <string.h>
 
 static const uint32_t all_percentiles[] = { 17, 50, 83 };
+
+/* ---- The two orders ---- */
+
+/* How the calls choose among equal counts. Every group is made for both, of the same frames. */
+struct order {
+    const char *name;
+    enum call pair, series, made_pair, made_series;
+    int32_t flat_plate; /* dx and dy of the worked example */
+};
+
+static const struct order orders[] = {
+    { "Ward's order", CALL_PAIR_WARD, CALL_SERIES_WARD, CALL_MADE_PAIR_WARD, CALL_MADE_SERIES_WARD, -7 },
+    { "least move", CALL_PAIR, CALL_SERIES, CALL_MADE_PAIR, CALL_MADE_SERIES, 0 },
+};
+
+/* That of the groups in the making. */
+static const struct order *order;
+
+static void begin_ordered(const char *group)
+{
+    char name[100];
+    snprintf(name, sizeof name, "%s, %s", group, order->name);
+    begin_group(name);
+}
+
+/* The same call in the other order. */
+static struct vector reordered(struct vector v)
+{
+    const struct order *other = order == orders ? orders + 1 : orders;
+    v.call = is_pair(v.call) ? other->pair : other->series;
+    return v;
+}
+
+/* Before the coarsest level nothing has been chosen. */
+static void must_begin_alike(const struct vector *v, const uint32_t *counts, const uint32_t *others)
+{
+    size_t pair_counts = 9 * (size_t)(v->s + 1), pairs = is_pair(v->call) ? 1 : v->n - 1;
+    for (size_t at = 0; at < pairs * pair_counts; at += pair_counts)
+        must(memcmp(counts + at, others + at, 9 * sizeof *counts) == 0, "the coarsest counts are the same in both orders");
+}
+
+/* Whether the other order gives other offsets. */
+static bool order_decides(const struct vector *v)
+{
+    struct vector other = reordered(*v);
+    struct answer a = answer_of(v), b = answer_of(&other);
+    bool series = is_series(v->call);
+    must_begin_alike(v, a.out[series], b.out[series]);
+    bool decides = series ? memcmp(a.out[0], b.out[0], a.out_bytes[0]) != 0 : memcmp(a.values, b.values, sizeof a.values) != 0;
+    free_answer(a);
+    free_answer(b);
+    return decides;
+}
+
+/* Adds the call, and tells whether the order decides. */
+static bool add_ordered(const struct vector *v)
+{
+    add(v);
+    return order_decides(v);
+}
 
 /* ---- Rasters ---- */
 
@@ -29,7 +90,7 @@ static uint8_t *bracket_of(uint32_t w, uint32_t h, uint32_t n, int32_t reach)
 
 static struct vector pair_vector(uint32_t w, uint32_t h, uint32_t s, const uint8_t *first, const uint8_t *second)
 {
-    struct vector v = { .call = CALL_PAIR, .w = w, .h = h, .s = s, .percentile = 50, .in = { { first, 0 }, { second, 0 } } };
+    struct vector v = { .call = order->pair, .w = w, .h = h, .s = s, .percentile = 50, .in = { { first, 0 }, { second, 0 } } };
     fit_lengths(&v);
     return v;
 }
@@ -39,6 +100,20 @@ static struct vector bracket_pair(uint32_t w, uint32_t h, uint32_t s, const uint
     return pair_vector(w, h, s, rasters, rasters + (size_t)3 * w * h);
 }
 
+/* A pair at every percentile, without tolerance and with some. In how many of these the order decides. */
+static int add_settings(uint32_t w, uint32_t h, uint32_t s, const uint8_t *rasters)
+{
+    int decided = 0;
+    for (int p = 0; p < 3; p++)
+        for (uint32_t t = 0; t < 2; t++) {
+            struct vector v = bracket_pair(w, h, s, rasters);
+            v.percentile = all_percentiles[p];
+            v.tolerance = t ? random_below(12) : 0;
+            decided += add_ordered(&v);
+        }
+    return decided;
+}
+
 /* Sizes odd and even, at the least side for s and above it, widths around multiples of 64. */
 static void pair_sizes(void)
 {
@@ -46,17 +121,11 @@ static void pair_sizes(void)
                                          { 9, 13, 1 },  { 65, 8, 1 },   { 16, 16, 2 }, { 17, 19, 2 },  { 31, 16, 2 },
                                          { 63, 17, 2 }, { 128, 16, 2 }, { 32, 32, 3 }, { 33, 40, 3 },  { 127, 17, 2 },
                                          { 129, 16, 2 }, { 64, 64, 4 }, { 65, 67, 4 } };
-    begin_group("pair: sizes and halvings");
+    begin_ordered("pair: sizes and halvings");
     for (int i = 0; i < COUNT_OF(sizes); i++) {
         uint32_t w = sizes[i][0], h = sizes[i][1], s = sizes[i][2];
         uint8_t *rasters = bracket_of(w, h, 2, 1 << s);
-        for (int p = 0; p < 3; p++)
-            for (uint32_t t = 0; t < 2; t++) {
-                struct vector v = bracket_pair(w, h, s, rasters);
-                v.percentile = all_percentiles[p];
-                v.tolerance = t ? random_below(12) : 0;
-                add(&v);
-            }
+        add_settings(w, h, s, rasters);
         free(rasters);
     }
 }
@@ -65,7 +134,7 @@ static void pair_settings(void)
 {
     static const uint32_t tolerances[] = { 0, 1, 2, 3, 4, 8, 16, 32, 63, 64, 65, 66, 256, 256 + 4, 0xFFFFFFFF };
     static const uint32_t percentiles[] = { 17, 50, 83, 0, 16, 18, 49, 51, 82, 84, 100, 256 + 50, 65536 + 17, 0xFFFFFFFF };
-    begin_group("pair: tolerances and percentiles");
+    begin_ordered("pair: tolerances and percentiles");
     uint8_t *rasters = bracket_of(37, 33, 2, 4);
     for (int t = 0; t < COUNT_OF(tolerances); t++)
         for (int p = 0; p < COUNT_OF(percentiles); p++) {
@@ -84,7 +153,7 @@ static void pair_settings(void)
 /* Output and work memory just short, just enough, and longer. */
 static void pair_lengths(void)
 {
-    begin_group("pair: lent lengths");
+    begin_ordered("pair: lent lengths");
     uint8_t *rasters = bracket_of(66, 17, 2, 2);
     for (int counts = -1; counts <= 1; counts++)
         for (int grey = -1; grey <= 1; grey++)
@@ -133,7 +202,7 @@ static void pair_refusals(void)
         { 5, false, break_tolerance },  { 8, false, break_percentile }, { 9, true, break_input },
         { 10, true, break_output },     { 11, true, break_memory },
     };
-    begin_group("pair: refusals");
+    begin_ordered("pair: refusals");
     add_subsets(pair_vector(8, 9, 1, noise, noise + 300), breakers, COUNT_OF(breakers), 1);
 }
 
@@ -167,7 +236,7 @@ static void pair_re_exposed(void)
 {
     static const uint32_t sizes[][3] = { { 9, 8, 0 }, { 13, 8, 1 }, { 16, 17, 2 }, { 21, 18, 2 }, { 70, 9, 1 } };
     static uint8_t rasters[2 * 3 * 700], others[2 * 3 * 700];
-    begin_group("pair: re-exposed, T = 0");
+    begin_ordered("pair: re-exposed, T = 0");
     for (int i = 0; i < COUNT_OF(sizes); i++)
         for (uint32_t values = 3; values <= 200; values *= 8) {
             uint32_t w = sizes[i][0], h = sizes[i][1], s = sizes[i][2];
@@ -185,7 +254,7 @@ static void pair_re_exposed(void)
 static struct vector series_vector(uint32_t w, uint32_t h, uint32_t s, uint32_t n, uint32_t r, const uint32_t *percentiles,
                                    const uint8_t *rasters)
 {
-    struct vector v = { .call = CALL_SERIES, .w = w, .h = h, .s = s, .n = n, .r = r,
+    struct vector v = { .call = order->series, .w = w, .h = h, .s = s, .n = n, .r = r,
                         .in = { { percentiles, 0 }, { rasters, 0 } } };
     fit_lengths(&v);
     return v;
@@ -214,7 +283,7 @@ static void add_references(uint32_t w, uint32_t h, uint32_t s, uint32_t n, uint3
 
 static void series_frames(void)
 {
-    begin_group("series: N of 1, 2, 3, 5 and 16, every reference");
+    begin_ordered("series: N of 1, 2, 3, 5 and 16, every reference");
     add_references(16, 17, 2, 1, 0);
     add_references(64, 9, 1, 2, 0);
     add_references(33, 32, 3, 2, 4);
@@ -263,7 +332,7 @@ static void series_refusals(void)
         { 8, true, break_percentiles }, { 9, true, break_input },      { 10, true, break_output },
         { 11, true, break_memory },
     };
-    begin_group("series: refusals");
+    begin_ordered("series: refusals");
     add_subsets(series_vector(8, 9, 1, 3, 1, percentiles, noise), breakers, COUNT_OF(breakers), 1);
 }
 
@@ -272,7 +341,7 @@ static void series_re_exposed(void)
     static const uint32_t shapes[][4] = { { 9, 8, 1, 3 }, { 17, 16, 2, 4 }, { 66, 8, 1, 2 }, { 6, 5, 0, 16 } };
     static uint8_t rasters[16 * 3 * 300], others[16 * 3 * 300];
     uint32_t percentiles[MOST_FRAMES];
-    begin_group("series: re-exposed, T = 0");
+    begin_ordered("series: re-exposed, T = 0");
     for (int i = 0; i < COUNT_OF(shapes); i++)
         for (uint32_t values = 4; values <= 200; values *= 7) {
             uint32_t w = shapes[i][0], h = shapes[i][1], s = shapes[i][2], n = shapes[i][3], r = random_below(n);
@@ -286,6 +355,104 @@ static void series_re_exposed(void)
         }
 }
 
+/* ---- Ties ---- */
+
+static uint8_t *dull_bracket(enum dull kind, uint32_t w, uint32_t h, uint32_t n)
+{
+    uint8_t *rasters = malloc((size_t)3 * w * h * n);
+    dull_frames(kind, w, h, n, rasters);
+    return rasters;
+}
+
+/* The places, as bits, of the least of nine counts. */
+static uint32_t least_places(const uint32_t counts[9])
+{
+    uint32_t places = 0, least = UINT32_MAX;
+    for (int k = 0; k < 9; k++)
+        if (counts[k] <= least) {
+            places = (counts[k] == least ? places : 0) | 1u << k;
+            least = counts[k];
+        }
+    return places;
+}
+
+/* Whether these are the finest level's least counts, and the coarser level has one alone that is not (0,0)'s. */
+static bool ties_at(const struct vector *v, uint32_t places)
+{
+    struct answer a = answer_of(v);
+    const uint32_t *counts = a.out[0];
+    uint32_t coarser = least_places(counts), finest = least_places(counts + 9);
+    free_answer(a);
+    return finest == places && (coarser & (coarser - 1)) == 0 && coarser != 1u << 4;
+}
+
+enum { TIE_SIDE = 8, TIE_BYTES = 2 * 3 * TIE_SIDE * TIE_SIDE };
+
+/* Two frames of few values: at s = 1 the candidates of just these places tie, around a centre other than (0,0). */
+static void draw_tie(uint32_t places, uint8_t rasters[TIE_BYTES])
+{
+    struct vector v = bracket_pair(TIE_SIDE, TIE_SIDE, 1, rasters);
+    do
+        for (int i = 0; i < TIE_BYTES; i++)
+            rasters[i] = (uint8_t)random_below(4);
+    while (!ties_at(&v, places));
+}
+
+/* A wrong order has two of the nine the wrong way round: here those two decide. */
+static void ties_of_two(bool series)
+{
+    static const uint32_t median = 50;
+    static uint8_t rasters[TIE_BYTES];
+    int decided = 0;
+    begin_ordered(series ? "series: each two of the nine tie" : "pair: each two of the nine tie");
+    for (uint32_t i = 0; i < 9; i++)
+        for (uint32_t k = i + 1; k < 9; k++) {
+            draw_tie(1u << i | 1u << k, rasters);
+            struct vector v = series ? series_vector(TIE_SIDE, TIE_SIDE, 1, 2, (i + k) % 2, &median, rasters)
+                                     : bracket_pair(TIE_SIDE, TIE_SIDE, 1, rasters);
+            decided += add_ordered(&v);
+        }
+    must(decided == 14, "the two lists of the nine have 14 pairs the other way round");
+}
+
+static void pair_ties(void)
+{
+    static const uint32_t sizes[][3] = { { 4, 4, 0 }, { 6, 4, 0 },   { 5, 7, 0 },   { 8, 8, 1 },   { 9, 8, 1 },
+                                         { 8, 13, 1 }, { 11, 10, 1 }, { 16, 16, 2 }, { 17, 19, 2 }, { 33, 32, 3 } };
+    int decided = 0;
+    begin_ordered("pair: ties");
+    for (int i = 0; i < COUNT_OF(sizes); i++)
+        for (enum dull kind = DULL_FLAT; kind < DULL_KINDS; kind++) {
+            uint32_t w = sizes[i][0], h = sizes[i][1], s = sizes[i][2];
+            uint8_t *rasters = dull_bracket(kind, w, h, 2);
+            decided += add_settings(w, h, s, rasters);
+            free(rasters);
+        }
+    must(decided >= 200, "the order decides 200 of the pairs that tie");
+}
+
+static void series_ties(void)
+{
+    static const uint32_t shapes[][4] = { { 4, 5, 0, 16 }, { 6, 4, 0, 5 }, { 8, 8, 1, 3 }, { 9, 13, 1, 4 }, { 16, 17, 2, 3 },
+                                          { 21, 16, 2, 2 } };
+    uint32_t percentiles[MOST_FRAMES];
+    int decided = 0;
+    begin_ordered("series: ties");
+    for (int i = 0; i < COUNT_OF(shapes); i++)
+        for (enum dull kind = DULL_FLAT; kind < DULL_KINDS; kind++) {
+            uint32_t w = shapes[i][0], h = shapes[i][1], s = shapes[i][2], n = shapes[i][3];
+            uint8_t *rasters = dull_bracket(kind, w, h, n);
+            for (uint32_t t = 0; t < 3; t++) {
+                random_percentiles(percentiles);
+                struct vector v = series_vector(w, h, s, n, random_below(n), percentiles, rasters);
+                v.tolerance = t ? random_below(12) : 0;
+                decided += add_ordered(&v);
+            }
+            free(rasters);
+        }
+    must(decided >= 60, "the order decides 60 of the series that tie");
+}
+
 /* ---- Made frames ---- */
 
 /* A pair of overlapping parts of the made bytes: the second begins dy rows and dx pixels later. */
@@ -295,7 +462,7 @@ static void add_made_pair(uint32_t w, uint32_t h, uint32_t s, uint32_t scene, ui
     uint8_t *made = malloc(size + later);
     make_frames((struct made){ scene, w, 65536 }, size + later, made);
     struct vector v = pair_vector(w, h, s, made, made + later);
-    v.call = CALL_MADE_PAIR;
+    v.call = order->made_pair;
     v.made = (struct slice){ made, size + later };
     v.made_rows = 65536;
     v.scene = scene;
@@ -307,7 +474,7 @@ static void add_made_pair(uint32_t w, uint32_t h, uint32_t s, uint32_t scene, ui
 
 static void made_pairs(void)
 {
-    begin_group("made frames: pairs of s 5 to 8");
+    begin_ordered("made frames: pairs of s 5 to 8");
     add_made_pair(128, 128, 5, 3, 2, 1);
     add_made_pair(131, 150, 5, 4, 9, 3);
     add_made_pair(256, 256, 6, 3, 11, 6);
@@ -330,7 +497,7 @@ static void add_made_series(uint32_t w, uint32_t h, uint32_t s, uint32_t n, uint
     uint8_t *made = malloc(size);
     make_frames((struct made){ scene, w, h }, size, made);
     struct vector v = series_vector(w, h, s, n, r, percentiles, made);
-    v.call = CALL_MADE_SERIES;
+    v.call = order->made_series;
     v.made = (struct slice){ made, size };
     v.made_rows = h;
     v.scene = scene;
@@ -341,15 +508,16 @@ static void add_made_series(uint32_t w, uint32_t h, uint32_t s, uint32_t n, uint
 
 static void made_series(void)
 {
-    begin_group("made frames: series of s 5 to 7");
+    begin_ordered("made frames: series of s 5 to 7");
     add_made_series(130, 140, 5, 4, 2, 3);
     add_made_series(256, 256, 6, 3, 1, 3);
     add_made_series(321, 260, 6, 3, 0, 4);
     add_made_series(513, 512, 7, 3, 2, 0);
 }
 
-/* ---- Document 01's worked examples ---- */
+/* ---- The documents' worked examples ---- */
 
+/* "the flat plate gives (0,0) by the new pair, (−7,−7) by the kept one" */
 static void flat_example(void)
 {
     static uint8_t flat[3 * 16 * 16];
@@ -357,8 +525,9 @@ static void flat_example(void)
     struct vector v = pair_vector(16, 16, 2, flat, flat);
     struct answer a = answer_of(&v);
     static const uint32_t zero[27];
-    must(a.refusal == 0 && a.values[0] == (uint32_t)-7 && a.values[1] == (uint32_t)-7, "flat frames: (-7,-7)");
-    must(a.out_bytes[0] == sizeof zero && memcmp(a.out[0], zero, sizeof zero) == 0, "flat frames: 27 counts of 0");
+    uint32_t move = (uint32_t)order->flat_plate;
+    must(a.refusal == 0 && a.values[0] == move && a.values[1] == move, "the flat plate's offset");
+    must(a.out_bytes[0] == sizeof zero && memcmp(a.out[0], zero, sizeof zero) == 0, "the flat plate: 27 counts of 0");
     free_answer(a);
     add(&v);
 }
@@ -392,7 +561,7 @@ static void one_frame_example(void)
 
 static void pair_examples(void)
 {
-    begin_group(EXAMPLES);
+    begin_ordered("documents 01 and 02: worked examples");
     flat_example();
     expect_pair(16, 16, 0, 0);
     expect_pair(15, 16, 0, 4);
@@ -404,7 +573,7 @@ static void pair_examples(void)
 
 static void series_examples(void)
 {
-    begin_group(EXAMPLES);
+    begin_ordered("documents 01 and 02: worked examples");
     one_frame_example();
     expect_series(16, 0);
     expect_series(17, 6);
@@ -412,24 +581,42 @@ static void series_examples(void)
 
 /* ---- The files ---- */
 
-void pair_groups(uint64_t seed)
+static void pair_groups_in_order(void)
 {
-    random_begin(seed, "pairs");
     pair_examples();
     pair_sizes();
     pair_settings();
     pair_lengths();
     pair_refusals();
     pair_re_exposed();
+    pair_ties();
+    ties_of_two(false);
     made_pairs();
 }
 
-void series_groups(uint64_t seed)
+static void series_groups_in_order(void)
 {
-    random_begin(seed, "series");
     series_examples();
     series_frames();
     series_refusals();
     series_re_exposed();
+    series_ties();
+    ties_of_two(true);
     made_series();
+}
+
+void pair_groups(uint64_t seed)
+{
+    for (order = orders; order < orders + COUNT_OF(orders); order++) {
+        random_begin(seed, "pairs");
+        pair_groups_in_order();
+    }
+}
+
+void series_groups(uint64_t seed)
+{
+    for (order = orders; order < orders + COUNT_OF(orders); order++) {
+        random_begin(seed, "series");
+        series_groups_in_order();
+    }
 }

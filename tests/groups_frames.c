@@ -281,7 +281,7 @@ static void shift_example(int32_t dx, int32_t dy)
 
 static void shift_examples(void)
 {
-    begin_group(EXAMPLES);
+    begin_group("document 01: worked examples that are not proved");
     shift_example(70, 0);
     shift_example(-70, 0);
     shift_example(71, 1);

@@ -1,4 +1,4 @@
-/* Document 01, pixel by pixel. Sentences in quotation marks are the document's. */
+/* Document 01 and Paper 1 of document 02, pixel by pixel. Sentences in quotation marks are the documents'. */
 #include "reference.h"
 
 #include <stdio.h>
@@ -287,37 +287,63 @@ static uint32_t difference_count(const struct bits *first, const struct bits *se
 
 /* ---- Pair ---- */
 
-/* "With centre (cx,cy) the nine candidates are (cx+i, cy+j), i from −1 to 1 outside, j from −1 to 1 inside. The first with the
- * least count is the level's answer." */
-static struct offset first_least(const struct bits *first, const struct bits *second, struct offset centre,
-                                 uint32_t *counts)
+/* "With centre (cx,cy) the nine candidates are (cx+i, cy+j), i from −1 to 1 outside, j from −1 to 1 inside." The steps (i, j). */
+static const struct offset wards_order[CANDIDATES] = {
+    { -1, -1 }, { -1, 0 }, { -1, 1 }, { 0, -1 }, { 0, 0 }, { 0, 1 }, { 1, -1 }, { 1, 0 }, { 1, 1 },
+};
+
+/* "The pair and series calls now prefer the least move: (0,0), (−1,0), (1,0), (0,−1), (0,1), (−1,−1), (−1,1), (1,−1), (1,1) around
+ * the centre." */
+static const struct offset least_move[CANDIDATES] = {
+    { 0, 0 }, { -1, 0 }, { 1, 0 }, { 0, -1 }, { 0, 1 }, { -1, -1 }, { -1, 1 }, { 1, -1 }, { 1, 1 },
+};
+
+static struct offset sum_of(struct offset a, struct offset b)
 {
-    struct offset best = centre;
-    uint32_t least = UINT32_MAX;
-    for (int i = -1; i <= 1; i++)
-        for (int j = -1; j <= 1; j++) {
-            struct offset candidate = { centre.dx + i, centre.dy + j };
-            uint32_t count = difference_count(first, second, candidate);
-            *counts++ = count;
-            if (count < least) {
-                least = count;
-                best = candidate;
-            }
-        }
-    return best;
+    return (struct offset){ a.dx + b.dx, a.dy + b.dy };
+}
+
+static bool same_offset(struct offset a, struct offset b)
+{
+    return a.dx == b.dx && a.dy == b.dy;
+}
+
+/* "Counts are still written in the former order." */
+static void count_candidates(const struct bits *first, const struct bits *second, struct offset centre, uint32_t *counts)
+{
+    for (int k = 0; k < CANDIDATES; k++)
+        counts[k] = difference_count(first, second, sum_of(centre, wards_order[k]));
+}
+
+static uint32_t count_at(const uint32_t *counts, struct offset step)
+{
+    int k = 0;
+    while (!same_offset(wards_order[k], step))
+        k++;
+    return counts[k];
+}
+
+/* "The first with the least count is the level's answer." The first in this order. */
+static struct offset first_least(const uint32_t *counts, struct offset centre, const struct offset order[CANDIDATES])
+{
+    struct offset best = order[0];
+    for (int k = 1; k < CANDIDATES; k++)
+        if (count_at(counts, order[k]) < count_at(counts, best))
+            best = order[k];
+    return sum_of(centre, best);
 }
 
 /* "Each level takes its threshold afresh, both frames with the same P." */
-static struct offset settle_level(const struct frame *first, const struct frame *second, struct offset centre,
-                                  uint32_t tolerance, uint32_t percentile, uint32_t *counts)
+static struct offset settle_level(const struct offset order[CANDIDATES], const struct frame *first, const struct frame *second,
+                                  struct offset centre, uint32_t tolerance, uint32_t percentile, uint32_t *counts)
 {
     size_t count = pixels(first->w, first->h);
     struct bits bits1 = bits_of_frame(first, threshold_of(first->grey, count, percentile), tolerance);
     struct bits bits2 = bits_of_frame(second, threshold_of(second->grey, count, percentile), tolerance);
-    struct offset best = first_least(&bits1, &bits2, centre, counts);
+    count_candidates(&bits1, &bits2, centre, counts);
     free_bits(bits1);
     free_bits(bits2);
-    return best;
+    return first_least(counts, centre, order);
 }
 
 static struct frame halved(const struct frame *frame)
@@ -329,18 +355,18 @@ static struct frame halved(const struct frame *frame)
 
 /* "A level's answer rests on that of the next coarser one, doubled; below the coarsest it is (0,0)." Counts: "coarsest level
  * first". */
-static struct offset align(const struct frame *first, const struct frame *second, uint32_t s, uint32_t tolerance,
-                           uint32_t percentile, uint32_t *counts)
+static struct offset align(const struct offset order[CANDIDATES], const struct frame *first, const struct frame *second,
+                           uint32_t s, uint32_t tolerance, uint32_t percentile, uint32_t *counts)
 {
     struct offset centre = { 0, 0 };
     if (s > 0) {
         struct frame half1 = halved(first), half2 = halved(second);
-        struct offset coarser = align(&half1, &half2, s - 1, tolerance, percentile, counts);
+        struct offset coarser = align(order, &half1, &half2, s - 1, tolerance, percentile, counts);
         centre = (struct offset){ 2 * coarser.dx, 2 * coarser.dy };
         free(half1.grey);
         free(half2.grey);
     }
-    return settle_level(first, second, centre, tolerance, percentile, counts + (size_t)CANDIDATES * s);
+    return settle_level(order, first, second, centre, tolerance, percentile, counts + (size_t)CANDIDATES * s);
 }
 
 static struct frame frame_of_raster(uint32_t w, uint32_t h, const uint8_t *raster)
@@ -350,11 +376,12 @@ static struct frame frame_of_raster(uint32_t w, uint32_t h, const uint8_t *raste
     return frame;
 }
 
-static struct offset align_rasters(uint32_t w, uint32_t h, uint32_t s, uint32_t tolerance, uint32_t percentile,
-                                   const uint8_t *first, const uint8_t *second, uint32_t *counts)
+static struct offset align_rasters(const struct offset order[CANDIDATES], uint32_t w, uint32_t h, uint32_t s,
+                                   uint32_t tolerance, uint32_t percentile, const uint8_t *first, const uint8_t *second,
+                                   uint32_t *counts)
 {
     struct frame frame1 = frame_of_raster(w, h, first), frame2 = frame_of_raster(w, h, second);
-    struct offset found = align(&frame1, &frame2, s, tolerance, percentile, counts);
+    struct offset found = align(order, &frame1, &frame2, s, tolerance, percentile, counts);
     free(frame1.grey);
     free(frame2.grey);
     return found;
@@ -363,11 +390,12 @@ static struct offset align_rasters(uint32_t w, uint32_t h, uint32_t s, uint32_t 
 /* ---- Series ---- */
 
 /* "Pair j is frames j−1 and j, with offset d(j)"; "counts run pair 1 first". */
-static void align_pairs(uint32_t w, uint32_t h, uint32_t s, uint32_t tolerance, uint32_t n, const uint32_t *percentiles,
-                        const uint8_t *rasters, struct offset d[MAX_FRAMES], uint32_t *counts)
+static void align_pairs(const struct offset order[CANDIDATES], uint32_t w, uint32_t h, uint32_t s, uint32_t tolerance,
+                        uint32_t n, const uint32_t *percentiles, const uint8_t *rasters, struct offset d[MAX_FRAMES],
+                        uint32_t *counts)
 {
     for (uint32_t j = 1; j < n; j++)
-        d[j] = align_rasters(w, h, s, tolerance, percentiles[j - 1], rasters + (j - 1) * raster_bytes(w, h),
+        d[j] = align_rasters(order, w, h, s, tolerance, percentiles[j - 1], rasters + (j - 1) * raster_bytes(w, h),
                              rasters + j * raster_bytes(w, h), counts + (j - 1) * pair_counts(s));
 }
 
@@ -516,12 +544,11 @@ static uint32_t settings_refusal(uint32_t w, uint32_t h, uint32_t s, uint32_t to
     return 0;
 }
 
-uint32_t ref_pair(uint32_t w, uint32_t h, uint32_t s, uint32_t tolerance, uint32_t percentile, const uint8_t *first,
-                  size_t first_len, const uint8_t *second, size_t second_len, int32_t *dx, int32_t *dy, uint32_t *counts,
-                  size_t counts_len, uint8_t *grey, size_t grey_len, uint64_t *words, size_t words_len)
+static uint32_t pair_by(const struct offset order[CANDIDATES], uint32_t w, uint32_t h, uint32_t s, uint32_t tolerance,
+                        uint32_t percentile, const uint8_t *first, size_t first_len, const uint8_t *second,
+                        size_t second_len, int32_t *dx, int32_t *dy, uint32_t *counts, size_t counts_len, size_t grey_len,
+                        size_t words_len)
 {
-    (void)grey;
-    (void)words;
     uint32_t refusal = settings_refusal(w, h, s, tolerance);
     if (refusal)
         return refusal;
@@ -533,10 +560,32 @@ uint32_t ref_pair(uint32_t w, uint32_t h, uint32_t s, uint32_t tolerance, uint32
         return 10;
     if (short_memory(w, h, s, grey_len, words_len))
         return 11;
-    struct offset found = align_rasters(w, h, s, tolerance, percentile, first, second, counts);
+    struct offset found = align_rasters(order, w, h, s, tolerance, percentile, first, second, counts);
     *dx = (int32_t)found.dx;
     *dy = (int32_t)found.dy;
     return 0;
+}
+
+uint32_t ref_pair(uint32_t w, uint32_t h, uint32_t s, uint32_t tolerance, uint32_t percentile, const uint8_t *first,
+                  size_t first_len, const uint8_t *second, size_t second_len, int32_t *dx, int32_t *dy, uint32_t *counts,
+                  size_t counts_len, uint8_t *grey, size_t grey_len, uint64_t *words, size_t words_len)
+{
+    (void)grey;
+    (void)words;
+    return pair_by(least_move, w, h, s, tolerance, percentile, first, first_len, second, second_len, dx, dy, counts,
+                   counts_len, grey_len, words_len);
+}
+
+/* "a second pair of calls keeps it": Ward's order. */
+uint32_t ref_pair_ward(uint32_t w, uint32_t h, uint32_t s, uint32_t tolerance, uint32_t percentile, const uint8_t *first,
+                       size_t first_len, const uint8_t *second, size_t second_len, int32_t *dx, int32_t *dy,
+                       uint32_t *counts, size_t counts_len, uint8_t *grey, size_t grey_len, uint64_t *words,
+                       size_t words_len)
+{
+    (void)grey;
+    (void)words;
+    return pair_by(wards_order, w, h, s, tolerance, percentile, first, first_len, second, second_len, dx, dy, counts,
+                   counts_len, grey_len, words_len);
 }
 
 static uint32_t series_refusal(uint32_t w, uint32_t h, uint32_t s, uint32_t tolerance, uint32_t n, uint32_t r,
@@ -561,6 +610,25 @@ static uint32_t series_refusal(uint32_t w, uint32_t h, uint32_t s, uint32_t tole
     return 0;
 }
 
+static uint32_t series_by(const struct offset order[CANDIDATES], uint32_t w, uint32_t h, uint32_t s, uint32_t tolerance,
+                          uint32_t n, uint32_t r, const uint32_t *percentiles, size_t percentiles_len,
+                          const uint8_t *rasters, size_t rasters_len, int32_t *offsets, size_t offsets_len,
+                          uint32_t *counts, size_t counts_len, size_t grey_len, size_t words_len)
+{
+    uint32_t refusal = series_refusal(w, h, s, tolerance, n, r, percentiles, percentiles_len, rasters_len, offsets_len,
+                                      counts_len, grey_len, words_len);
+    if (refusal)
+        return refusal;
+    struct offset d[MAX_FRAMES];
+    align_pairs(order, w, h, s, tolerance, n, percentiles, rasters, d, counts);
+    for (uint32_t k = 0; k < n; k++) {
+        struct offset offset = frame_offset(d, r, k);
+        offsets[2 * k] = (int32_t)offset.dx;
+        offsets[2 * k + 1] = (int32_t)offset.dy;
+    }
+    return 0;
+}
+
 uint32_t ref_series(uint32_t w, uint32_t h, uint32_t s, uint32_t tolerance, uint32_t n, uint32_t r,
                     const uint32_t *percentiles, size_t percentiles_len, const uint8_t *rasters, size_t rasters_len,
                     int32_t *offsets, size_t offsets_len, uint32_t *counts, size_t counts_len, uint8_t *grey,
@@ -568,18 +636,19 @@ uint32_t ref_series(uint32_t w, uint32_t h, uint32_t s, uint32_t tolerance, uint
 {
     (void)grey;
     (void)words;
-    uint32_t refusal = series_refusal(w, h, s, tolerance, n, r, percentiles, percentiles_len, rasters_len, offsets_len,
-                                      counts_len, grey_len, words_len);
-    if (refusal)
-        return refusal;
-    struct offset d[MAX_FRAMES];
-    align_pairs(w, h, s, tolerance, n, percentiles, rasters, d, counts);
-    for (uint32_t k = 0; k < n; k++) {
-        struct offset offset = frame_offset(d, r, k);
-        offsets[2 * k] = (int32_t)offset.dx;
-        offsets[2 * k + 1] = (int32_t)offset.dy;
-    }
-    return 0;
+    return series_by(least_move, w, h, s, tolerance, n, r, percentiles, percentiles_len, rasters, rasters_len, offsets,
+                     offsets_len, counts, counts_len, grey_len, words_len);
+}
+
+uint32_t ref_series_ward(uint32_t w, uint32_t h, uint32_t s, uint32_t tolerance, uint32_t n, uint32_t r,
+                         const uint32_t *percentiles, size_t percentiles_len, const uint8_t *rasters, size_t rasters_len,
+                         int32_t *offsets, size_t offsets_len, uint32_t *counts, size_t counts_len, uint8_t *grey,
+                         size_t grey_len, uint64_t *words, size_t words_len)
+{
+    (void)grey;
+    (void)words;
+    return series_by(wards_order, w, h, s, tolerance, n, r, percentiles, percentiles_len, rasters, rasters_len, offsets,
+                     offsets_len, counts, counts_len, grey_len, words_len);
 }
 
 size_t ref_grey_needed(uint32_t w, uint32_t h, uint32_t s)
@@ -837,7 +906,8 @@ static struct picture read_picture(const uint8_t *file, size_t file_len)
     return picture;
 }
 
-/* The pair's number: "a second frame of another size counts as 9", after every lower number that applies. */
+/* The pair's number: "a second frame of another size counts as 9", after every lower number that applies. "a second pair of calls
+ * keeps [Ward's order]. `bracket` uses that one" */
 static uint32_t align_pictures(struct settings set, const struct picture *first, const struct picture *second, int32_t *dx,
                                int32_t *dy, uint32_t counts[BRACKET_COUNTS])
 {
@@ -848,9 +918,9 @@ static uint32_t align_pictures(struct settings set, const struct picture *first,
         return 8;
     if (first->w != second->w || first->h != second->h)
         return 9;
-    return ref_pair(first->w, first->h, set.s, set.tolerance, set.percentile, first->raster, first->raster_len,
-                    second->raster, second->raster_len, dx, dy, counts, BRACKET_COUNTS, NULL, BRACKET_GREY, NULL,
-                    BRACKET_WORDS);
+    return ref_pair_ward(first->w, first->h, set.s, set.tolerance, set.percentile, first->raster, first->raster_len,
+                         second->raster, second->raster_len, dx, dy, counts, BRACKET_COUNTS, NULL, BRACKET_GREY, NULL,
+                         BRACKET_WORDS);
 }
 
 /* "offset dx dy, then a line a level, coarsest first, the number of halvings before the colon, the nine counts after it" */

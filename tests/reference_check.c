@@ -1,5 +1,5 @@
-/* The reference itself against what document 01 prints: its worked examples, also those that the library proves, and the table of
- * numbers. Prints what it compared; exit status 1 when something differs. */
+/* The reference itself against what documents 01 and 02 print: their worked examples, also those that the library proves, and the
+ * table of numbers; and a tie worked by hand. Prints what it compared; exit status 1 when something differs. */
 #include "reference.h"
 
 #include <stdio.h>
@@ -48,41 +48,144 @@ static void check_thresholds(void)
     expect("frame 1, 2, 3, 4 at P = 83", threshold_at(83) == 4);
 }
 
-/* A P6 file of 4 by 4 with R = G = B, each value of `grey` replaced by tones[value]. */
-static size_t grey_file(const char *grey, const uint8_t tones[3], uint8_t *file)
+/* A raster with R = G = B: letters a, b and c stand for these tones. */
+static void lettered(const char *letters, const uint8_t tones[3], uint8_t *raster)
+{
+    for (size_t i = 0; i < 3 * strlen(letters); i++)
+        raster[i] = tones[letters[i / 3] - 'a'];
+}
+
+static const uint8_t printed_tones[3] = { 10, 20, 90 };
+
+/* The printed case. */
+static const char printed_first[] = "aaccaaccaaccabcc", printed_second[] = "caaccaaccaaccabc";
+
+/* A P6 file of 4 by 4. */
+static size_t lettered_file(const char *letters, const uint8_t tones[3], uint8_t *file)
 {
     uint8_t raster[48];
     size_t written = 0;
-    for (int i = 0; i < 48; i++)
-        raster[i] = tones[grey[i / 3] - 'a'];
+    lettered(letters, tones, raster);
     expect("a file is written", ref_p6_write(4, 4, raster, 48, file, 100, &written) == 0);
     return written;
 }
 
-/* The printed case: a, b and c stand for 10, 20 and 90. */
 static void check_printed(const char *what, const uint8_t first_tones[3])
 {
-    static const uint8_t tones[3] = { 10, 20, 90 };
     static const char printed[] = "offset -1 -1\n0: 0 0 0 5 7 6 8 10 8\n";
     uint8_t first[100], second[100], out[REF_BRACKET_ROOM];
-    size_t first_len = grey_file("aaccaaccaaccabcc", first_tones, first);
-    size_t second_len = grey_file("caaccaaccaaccabc", tones, second);
+    size_t first_len = lettered_file(printed_first, first_tones, first);
+    size_t second_len = lettered_file(printed_second, printed_tones, second);
     size_t length = ref_bracket((const uint8_t *)"0 0 50\n", 7, first, first_len, second, second_len, out);
     expect(what, length == sizeof printed - 1 && memcmp(out, printed, length) == 0);
 }
 
+/* ---- The two orders ---- */
+
+enum { MOST_PIXELS = 256, MOST_COUNTS = 27, AMPLE = 1000 };
+
+/* Two square frames, one raster after another, and the counts of their pair at T = 0, P = 50. */
+struct square {
+    uint32_t side, s, counts[MOST_COUNTS];
+    uint8_t rasters[2 * 3 * MOST_PIXELS];
+};
+
+static size_t raster_bytes(const struct square *square)
+{
+    return (size_t)3 * square->side * square->side;
+}
+
+static bool right_counts(const struct square *square, const uint32_t *counts)
+{
+    return memcmp(counts, square->counts, 9 * (square->s + 1) * sizeof *counts) == 0;
+}
+
+static bool pair_gives(__typeof__(ref_pair) *pair, const struct square *square, int32_t dx, int32_t dy)
+{
+    uint32_t side = square->side, counts[MOST_COUNTS];
+    int32_t x = 99, y = 99;
+    size_t bytes = raster_bytes(square);
+    uint32_t number = pair(side, side, square->s, 0, 50, square->rasters, bytes, square->rasters + bytes, bytes, &x, &y, counts,
+                           MOST_COUNTS, NULL, AMPLE, NULL, AMPLE);
+    return number == 0 && x == dx && y == dy && right_counts(square, counts);
+}
+
+static bool series_gives(__typeof__(ref_series) *series, const struct square *square, int32_t dx, int32_t dy)
+{
+    uint32_t side = square->side, percentile = 50, counts[MOST_COUNTS];
+    int32_t offsets[4] = { 99, 99, 99, 99 };
+    uint32_t number = series(side, side, square->s, 0, 2, 0, &percentile, 1, square->rasters, 2 * raster_bytes(square), offsets, 4,
+                             counts, MOST_COUNTS, NULL, AMPLE, NULL, AMPLE);
+    return number == 0 && offsets[0] == 0 && offsets[1] == 0 && offsets[2] == dx && offsets[3] == dy &&
+           right_counts(square, counts);
+}
+
+static void expect_least_move(const char *what, const struct square *square, int32_t dx, int32_t dy)
+{
+    expect(what, pair_gives(ref_pair, square, dx, dy) && series_gives(ref_series, square, dx, dy));
+}
+
+static void expect_kept(const char *what, const struct square *square, int32_t dx, int32_t dy)
+{
+    expect(what, pair_gives(ref_pair_ward, square, dx, dy) && series_gives(ref_series_ward, square, dx, dy));
+}
+
+static struct square lettered_square(uint32_t side, uint32_t s, const char *first, const char *second)
+{
+    struct square square = { .side = side, .s = s };
+    lettered(first, printed_tones, square.rasters);
+    lettered(second, printed_tones, square.rasters + raster_bytes(&square));
+    return square;
+}
+
+/* "its printed case is unchanged": by the kept call. Its first three counts tie. */
+static void check_printed_orders(void)
+{
+    static const uint32_t counts[9] = { 0, 0, 0, 5, 7, 6, 8, 10, 8 };
+    struct square printed = lettered_square(4, 0, printed_first, printed_second);
+    memcpy(printed.counts, counts, sizeof counts);
+    expect_kept("the printed case by the kept call: (-1,-1)", &printed, -1, -1);
+    expect_least_move("the printed case by the least move: (-1,0)", &printed, -1, 0);
+}
+
+/* "the flat plate gives (0,0) by the new pair, (−7,−7) by the kept one" */
 static void check_flat(void)
 {
-    uint8_t flat[768];
-    uint32_t counts[27], zero[27] = { 0 };
-    int32_t dx = 0, dy = 0;
-    memset(flat, 77, sizeof flat);
-    memset(counts, 1, sizeof counts);
-    uint32_t number = ref_pair(16, 16, 2, 4, 50, flat, 768, flat, 768, &dx, &dy, counts, 27, NULL, 672, NULL, 96);
-    expect("two flat frames are accepted", number == 0);
-    expect("two flat frames: all 27 counts 0", memcmp(counts, zero, sizeof zero) == 0);
-    expect("two flat frames: offset (-7,-7)", dx == -7 && dy == -7);
+    struct square flat = { .side = 16, .s = 2 };
+    memset(flat.rasters, 77, sizeof flat.rasters);
+    expect_kept("the flat plate by the kept call: (-7,-7), 27 counts of 0", &flat, -7, -7);
+    expect_least_move("the flat plate by the least move: (0,0), 27 counts of 0", &flat, 0, 0);
 }
+
+/* The median is b, which is excluded: a and c differ where one lies on the other. Halved to 4 by 4, (1,1) alone has no difference.
+ * So the centre is (2,2), and there the steps (0,-1) and (1,0) tie at one difference. Ward's order has (0,-1) first, the least move
+ * (1,0). With dx and dy exchanged, by its last in place of its first, or by nearness to (0,0) it would take (0,-1) too. */
+static void check_tie(void)
+{
+    static const uint32_t counts[18] = { 1, 2, 1, 1, 1, 2, 1, 1, 0, 3, 4, 3, 1, 2, 2, 2, 1, 2 };
+    struct square tie = lettered_square(8, 1,
+                                        "abbbabbb"
+                                        "abbbbabb"
+                                        "bbbabbbb"
+                                        "bbabbabb"
+                                        "bbabbbbb"
+                                        "bbababbb"
+                                        "bbbbabbb"
+                                        "bbbbbbbb",
+                                        "bbcbbbbb"
+                                        "bcccbbbb"
+                                        "bccbccbb"
+                                        "bbcccbbb"
+                                        "bbbbbbbb"
+                                        "bbbbbbbb"
+                                        "bbbbbbbb"
+                                        "bbbbbbbb");
+    memcpy(tie.counts, counts, sizeof counts);
+    expect_kept("a tie around (2,2) by the kept call: (2,1)", &tie, 2, 1);
+    expect_least_move("a tie around (2,2) by the least move: (3,2)", &tie, 3, 2);
+}
+
+/* ---- Limits ---- */
 
 /* The number of a pair whose lengths are right, whatever its sizes and settings. */
 static uint32_t pair_number(uint32_t w, uint32_t h, uint32_t s, uint32_t tolerance)
@@ -137,9 +240,11 @@ int main(void)
 {
     check_pixels();
     check_thresholds();
-    check_printed("the printed case", (const uint8_t[3]){ 10, 20, 90 });
+    check_printed("the printed case", printed_tones);
     check_printed("the printed case, the first frame re-exposed", (const uint8_t[3]){ 3, 4, 200 });
+    check_printed_orders();
     check_flat();
+    check_tie();
     check_limits();
     check_shifts();
     printf("reference: %d compared, %d differ\n", compared, different);

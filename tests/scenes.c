@@ -160,3 +160,61 @@ void make_frames(struct made by, size_t count, uint8_t *bytes)
     for (size_t i = 0; i < count; i++)
         bytes[i] = made_byte(by, i);
 }
+
+/* ---- Dull frames ---- */
+
+enum { DULL_VALUES = 4, DULL_WINDOW = 8 };
+
+/* Values in turn along across·x + down·y, each on so many pixels; or at random, each on square cells of such a side. */
+struct pattern {
+    enum dull kind;
+    uint8_t values[DULL_VALUES];
+    uint32_t used, side, across, down, scene;
+};
+
+static struct pattern random_pattern(enum dull kind)
+{
+    static const uint32_t ways[3][2] = { { 1, 0 }, { 0, 1 }, { 1, 1 } };
+    uint32_t way = random_below(3);
+    struct pattern pattern = { .kind = kind, .used = 2 + random_below(DULL_VALUES - 1), .side = 1 + random_below(4),
+                               .across = ways[way][0], .down = ways[way][1], .scene = random_below(1000) };
+    random_bytes(pattern.values, DULL_VALUES);
+    return pattern;
+}
+
+static uint8_t pattern_light(const struct pattern *pattern, uint32_t x, uint32_t y)
+{
+    uint64_t place = 0;
+    if (pattern->kind == DULL_STRIPES)
+        place = (pattern->across * x + pattern->down * y) / pattern->side;
+    if (pattern->kind == DULL_CELLS)
+        place = cell_light(pattern->scene, pattern->side, x, y);
+    return pattern->values[place % pattern->used];
+}
+
+static void put_grey(uint8_t grey, uint8_t *pixel)
+{
+    pixel[0] = pixel[1] = pixel[2] = grey;
+}
+
+static void add_specks(uint32_t pixels, uint8_t *raster)
+{
+    for (uint32_t specks = 1 + random_below(2); specks > 0; specks--)
+        put_grey((uint8_t)random_bits(), raster + 3 * (size_t)random_below(pixels));
+}
+
+static void dull_frame(const struct pattern *pattern, uint32_t w, uint32_t h, uint8_t *raster)
+{
+    uint32_t left = random_below(DULL_WINDOW), top = random_below(DULL_WINDOW);
+    for (uint32_t i = 0; i < w * h; i++)
+        put_grey(pattern_light(pattern, left + i % w, top + i / w), raster + 3 * (size_t)i);
+    if (pattern->kind == DULL_HAZE)
+        add_specks(w * h, raster);
+}
+
+void dull_frames(enum dull kind, uint32_t w, uint32_t h, uint32_t n, uint8_t *rasters)
+{
+    struct pattern pattern = random_pattern(kind);
+    for (uint32_t k = 0; k < n; k++)
+        dull_frame(&pattern, w, h, rasters + k * (3 * (size_t)w * h));
+}

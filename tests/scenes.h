@@ -44,6 +44,12 @@ void random_curve(uint32_t values, uint8_t curve[256]);
 /* The frame of grey values curve[g] where a raster with R = G = B has g, in random colours of just that grey. */
 void re_expose(const uint8_t *raster, size_t pixels, const uint8_t curve[256], uint8_t *out);
 
+/* Frames with so little to see that several moves have the same count: of one grey value; of one but for a pixel or two; stripes,
+ * upright, level or aslant; square cells of two to four values. n rasters of one scene, R = G = B, one after another, each seen
+ * through a window of its own. */
+enum dull { DULL_FLAT, DULL_HAZE, DULL_STRIPES, DULL_CELLS, DULL_KINDS };
+void dull_frames(enum dull kind, uint32_t w, uint32_t h, uint32_t n, uint8_t *rasters);
+
 /* Frames made by a formula, for sizes that are too large to store; FORMAT.md has the formula. */
 struct made {
     uint32_t scene, w, rows;

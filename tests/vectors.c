@@ -89,24 +89,41 @@ static uint32_t keep_lent_words(size_t count)
     return at;
 }
 
+/* ---- Calls ---- */
+
+bool is_pair(enum call call)
+{
+    return call == CALL_PAIR || call == CALL_MADE_PAIR || call == CALL_PAIR_WARD || call == CALL_MADE_PAIR_WARD;
+}
+
+bool is_series(enum call call)
+{
+    return call == CALL_SERIES || call == CALL_MADE_SERIES || call == CALL_SERIES_WARD || call == CALL_MADE_SERIES_WARD;
+}
+
+bool is_made(enum call call)
+{
+    return call == CALL_MADE_PAIR || call == CALL_MADE_SERIES || call == CALL_MADE_PAIR_WARD || call == CALL_MADE_SERIES_WARD;
+}
+
 /* ---- Records ---- */
 
 static size_t element_bytes(const struct vector *v, int input)
 {
     bool words = v->call == CALL_SHIFT || v->call == CALL_TOTAL || v->call == CALL_DIFFERENCE;
-    bool numbers = (v->call == CALL_SERIES || v->call == CALL_MADE_SERIES || v->call == CALL_AREA) && input == 0;
+    bool numbers = (is_series(v->call) || v->call == CALL_AREA) && input == 0;
     return words ? 8 : numbers ? 4 : 1;
 }
 
 /* The made bytes hold the rasters: both inputs of a pair, the second of a series. Their places count from the first made byte. */
-static bool is_made(const struct vector *v, int input)
+static bool is_made_input(enum call call, int input)
 {
-    return v->call == CALL_MADE_PAIR ? input < 2 : v->call == CALL_MADE_SERIES && input == 1;
+    return is_made(call) && (is_pair(call) || input == 1);
 }
 
 static uint32_t input_place(const struct vector *v, int input)
 {
-    if (is_made(v, input))
+    if (is_made_input(v->call, input))
         return (uint32_t)((const uint8_t *)v->in[input].data - (const uint8_t *)v->made.data);
     return keep(v->in[input].data, v->in[input].length * element_bytes(v, input));
 }
@@ -127,8 +144,7 @@ static void put_settings(const struct vector *v, uint32_t *record)
 
 static int inputs_of(enum call call)
 {
-    return call == CALL_DIFFERENCE ? 4 : call == CALL_BRACKET ? 3 : call == CALL_PAIR || call == CALL_MADE_PAIR ||
-           call == CALL_SERIES || call == CALL_MADE_SERIES || call == CALL_BLINK ? 2 : 1;
+    return call == CALL_DIFFERENCE ? 4 : call == CALL_BRACKET ? 3 : is_pair(call) || is_series(call) || call == CALL_BLINK ? 2 : 1;
 }
 
 static void put_slices(const struct vector *v, const struct answer *a, uint32_t *record)
@@ -142,11 +158,6 @@ static void put_slices(const struct vector *v, const struct answer *a, uint32_t 
             record[FIELD_OUTPUT + 2 * i] = (uint32_t)(v->call == CALL_BRACKET ? a->out_bytes[i] : v->out[i]);
             record[FIELD_OUTPUT + 2 * i + 1] = keep_contents(a->out[i], a->out_bytes[i], a->whole[i]);
         }
-}
-
-static bool has_memory(enum call call)
-{
-    return call == CALL_PAIR || call == CALL_SERIES || call == CALL_MADE_PAIR || call == CALL_MADE_SERIES;
 }
 
 static void put_memory(const struct vector *v, uint32_t *record)
@@ -176,9 +187,9 @@ uint32_t add(const struct vector *v)
     record[FIELD_REFUSAL] = a.refusal;
     for (int i = 0; i < MOST_VALUES; i++)
         record[FIELD_VALUES + i] = a.refusal ? 0 : a.values[i];
-    if (has_memory(v->call))
+    if (is_pair(v->call) || is_series(v->call))
         put_memory(v, record);
-    if (v->call == CALL_MADE_PAIR || v->call == CALL_MADE_SERIES)
+    if (is_made(v->call))
         put_made(v, record);
     groups[group_count - 1].count++;
     free_answer(a);
@@ -207,9 +218,9 @@ static void write_numbers(FILE *file, const uint32_t *numbers, size_t count)
 /* Made bytes follow the pool: only now is it known where. */
 static void place_made(uint32_t *record)
 {
-    struct vector v = { .call = record[FIELD_CALL] };
-    for (int i = 0; i < inputs_of(v.call); i++)
-        if (is_made(&v, i))
+    enum call call = record[FIELD_CALL];
+    for (int i = 0; i < inputs_of(call); i++)
+        if (is_made_input(call, i))
             record[FIELD_INPUT + 2 * i] += (uint32_t)pool_length;
 }
 

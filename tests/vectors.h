@@ -25,7 +25,16 @@ enum call {
     CALL_MOVED,
     CALL_BLINK,
     CALL_BRACKET,
+    CALL_PAIR_WARD,
+    CALL_SERIES_WARD,
+    CALL_MADE_PAIR_WARD,
+    CALL_MADE_SERIES_WARD,
 };
+
+/* In either order; pairs and series of stored frames or made ones. */
+bool is_pair(enum call call);
+bool is_series(enum call call);
+bool is_made(enum call call);
 
 /* Numbers of a record. */
 enum field {

@@ -239,14 +239,34 @@ ASK(ask_difference)
     return l->difference(n->w, n->h, n->dx, n->dy, SLICE(0), SLICE(1), SLICE(2), SLICE(3), a[4].at);
 }
 
+static uint32_t ask_pair_of(__typeof__(mtb_pair) *pair, const struct numbers *n, const struct lent *a)
+{
+    return pair(n->w, n->h, n->s, n->tolerance, n->percentile, SLICE(0), SLICE(1), a[2].at, a[3].at, SLICE(4), SLICE(5), SLICE(6));
+}
+
 ASK(ask_pair)
 {
-    return l->pair(n->w, n->h, n->s, n->tolerance, n->percentile, SLICE(0), SLICE(1), a[2].at, a[3].at, SLICE(4), SLICE(5), SLICE(6));
+    return ask_pair_of(l->pair, n, a);
+}
+
+ASK(ask_pair_ward)
+{
+    return ask_pair_of(l->pair_ward, n, a);
+}
+
+static uint32_t ask_series_of(__typeof__(mtb_series) *series, const struct numbers *n, const struct lent *a)
+{
+    return series(n->w, n->h, n->s, n->tolerance, n->n, n->r, SLICE(0), SLICE(1), SLICE(2), SLICE(3), SLICE(4), SLICE(5));
 }
 
 ASK(ask_series)
 {
-    return l->series(n->w, n->h, n->s, n->tolerance, n->n, n->r, SLICE(0), SLICE(1), SLICE(2), SLICE(3), SLICE(4), SLICE(5));
+    return ask_series_of(l->series, n, a);
+}
+
+ASK(ask_series_ward)
+{
+    return ask_series_of(l->series_ward, n, a);
 }
 
 ASK(ask_p6_size)
@@ -305,6 +325,8 @@ const struct call calls[] = {
     { "mtb_difference", WANTED, difference_slices, ask_difference, { 2, 9 } },
     { "mtb_pair", WANTED, pair_slices, ask_pair, { 2, 3, 4, 5, 8, 9, 10, 11 } },
     { "mtb_series", WANTED, series_slices, ask_series, { 2, 3, 4, 5, 6, 7, 8, 9, 10, 11 } },
+    { "mtb_pair_ward", WANTED, pair_slices, ask_pair_ward, { 2, 3, 4, 5, 8, 9, 10, 11 } },
+    { "mtb_series_ward", WANTED, series_slices, ask_series_ward, { 2, 3, 4, 5, 6, 7, 8, 9, 10, 11 } },
     { "mtb_p6_size", CHANCE, p6_size_slices, ask_p6_size, { 1, 2, 9 } },
     { "mtb_p6_raster", CHANCE, p6_raster_slices, ask_p6_raster, { 1, 2, 9 } },
     { "mtb_p6_write", WANTED, p6_write_slices, ask_p6_write, { 2, 9, 10 } },

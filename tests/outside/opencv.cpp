@@ -1,5 +1,6 @@
-// The library's offsets beside those of OpenCV's AlignMTB on the same frames, as a section of docs/PEERS.md on standard output.
-// Agreement is reported, not asserted: the two methods differ.
+// The library's offsets beside those of OpenCV's AlignMTB on the same frames, as a section of docs/PEERS.md on standard output. The
+// library is asked by mtb_series_ward: of equal counts OpenCV too takes the first in Ward's order. Agreement is reported, not asserted:
+// the two methods differ.
 #include "mtb.h"
 
 extern "C" {
@@ -41,7 +42,7 @@ std::vector<uint8_t> rasters_of(const std::vector<Grey> &frames)
     return rasters;
 }
 
-// Each frame's move onto frame r, by mtb_series.
+// Each frame's move onto frame r, in Ward's order.
 std::vector<Move> library_moves(const Settings &set, const std::vector<Grey> &frames, uint32_t r)
 {
     uint32_t n = (uint32_t)frames.size();
@@ -49,9 +50,9 @@ std::vector<Move> library_moves(const Settings &set, const std::vector<Grey> &fr
     std::vector<uint64_t> words(mtb_words_needed(set.w, set.h, set.s));
     std::vector<uint32_t> percentiles(n - 1, median), counts(9 * (set.s + 1) * (n - 1));
     std::vector<int32_t> offsets(2 * n);
-    uint32_t refusal = mtb_series(set.w, set.h, set.s, set.tolerance, n, r, percentiles.data(), percentiles.size(), rasters.data(),
-                                  rasters.size(), offsets.data(), offsets.size(), counts.data(), counts.size(), grey.data(),
-                                  grey.size(), words.data(), words.size());
+    uint32_t refusal = mtb_series_ward(set.w, set.h, set.s, set.tolerance, n, r, percentiles.data(), percentiles.size(),
+                                       rasters.data(), rasters.size(), offsets.data(), offsets.size(), counts.data(), counts.size(),
+                                       grey.data(), grey.size(), words.data(), words.size());
     if (refusal) {
         std::fprintf(stderr, "opencv: refused %u\n", refusal);
         std::exit(1);
@@ -297,8 +298,9 @@ int main()
     cv::setNumThreads(1);
     std::printf("## OpenCV's AlignMTB\n\n"
                 "OpenCV %s, `calculateShift` with `max_bits` = s + 1, on the same frames; grey frames (R = G = B), so that the two grey conversions do not\n"
-                "enter. Reported, not asserted. The two methods differ by design: OpenCV's median is one past document 01's threshold, its pyramid\n"
-                "keeps every second pixel, and it measures every frame of a bracket directly against the middle one.\n\n"
+                "enter. The library is asked by `mtb_series_ward`, which of equal counts takes the first in Ward's order, as OpenCV does. Reported, not\n"
+                "asserted. The two methods differ by design: OpenCV's median is one past document 01's threshold, its pyramid keeps every second\n"
+                "pixel, and it measures every frame of a bracket directly against the middle one.\n\n"
                 "Frames on which none of this matters (grey in multiples of 4, T = 1, constant on aligned blocks of 2^s by 2^s pixels, even numbers of\n"
                 "pixels, pairs): there it is an outside check of the pair's offset.\n",
                 CV_VERSION);

@@ -30,14 +30,15 @@ static void call_difference(void) {
     number = mtb_difference(w, h, dx, dy, thresholds, bitmap_len, exclusions, bitmap_len, thresholds, bitmap_len, exclusions,
                             bitmap_len, &left);
 }
-static void call_pair(void) {
-    number = mtb_pair(w, h, s, 4, 50, rasters, 3 * area, rasters + 3 * area, 3 * area, &dx, &dy, counts, 9 * (s + 1), grey,
-                      grey_len, words, words_len);
-}
-static void call_series(void) {
-    number = mtb_series(w, h, s, 4, n, n / 2, percentiles, n - 1, rasters, n * 3 * area, offsets, 2 * n, counts,
-                        9 * (s + 1) * (n - 1), grey, grey_len, words, words_len);
-}
+#define PAIR_ARGUMENTS                                                                                                          \
+    w, h, s, 4, 50, rasters, 3 * area, rasters + 3 * area, 3 * area, &dx, &dy, counts, 9 * (s + 1), grey, grey_len, words, words_len
+static void call_pair(void) { number = mtb_pair(PAIR_ARGUMENTS); }
+static void call_pair_ward(void) { number = mtb_pair_ward(PAIR_ARGUMENTS); }
+#define SERIES_ARGUMENTS                                                                                                        \
+    w, h, s, 4, n, n / 2, percentiles, n - 1, rasters, n * 3 * area, offsets, 2 * n, counts, 9 * (s + 1) * (n - 1), grey,       \
+        grey_len, words, words_len
+static void call_series(void) { number = mtb_series(SERIES_ARGUMENTS); }
+static void call_series_ward(void) { number = mtb_series_ward(SERIES_ARGUMENTS); }
 static void call_grey_needed(void) { number = mtb_grey_needed(w, h, s) != grey_len; }
 static void call_words_needed(void) { number = mtb_words_needed(w, h, s) != words_len; }
 static void call_p6_write(void) { number = mtb_p6_write(w, h, rasters, 3 * area, out, 3 * area + 17, &written); }
@@ -67,6 +68,8 @@ static const struct {
     {"mtb_difference", call_difference, MOVING},
     {"mtb_pair", call_pair, ALIGNING},
     {"mtb_series", call_series, ALIGNING},
+    {"mtb_pair_ward", call_pair_ward, ALIGNING},
+    {"mtb_series_ward", call_series_ward, ALIGNING},
     {"mtb_grey_needed", call_grey_needed, LEVELLED},
     {"mtb_words_needed", call_words_needed, LEVELLED},
     {"mtb_p6_write", call_p6_write, PLAIN},

@@ -63,6 +63,8 @@ struct library {
     __typeof__(mtb_difference) *difference;
     __typeof__(mtb_pair) *pair;
     __typeof__(mtb_series) *series;
+    __typeof__(mtb_pair_ward) *pair_ward;
+    __typeof__(mtb_series_ward) *series_ward;
     __typeof__(mtb_p6_size) *p6_size;
     __typeof__(mtb_p6_raster) *p6_raster;
     __typeof__(mtb_p6_write) *p6_write;

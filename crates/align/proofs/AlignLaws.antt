@@ -1,10 +1,10 @@
 -- The step of the recursion over plain lists: what the coarser level reads, what it leaves, and how the counts go together.
 use mathlib.Core.Path.{_≡_, refl, sym, ap, ap₂, _∙_}
 use mathlib.Core.List.{List, [], _++_, map}
-use Prim.Native.Nat.{ℕ, zero, suc, _+_, _*_, _-_, _/_, _^_, _≤_, _<_}
+use Prim.Native.Nat.{ℕ, suc, _+_, _*_, _-_, _/_, _^_, _≤_, _<_}
 use native.Mathlib.Nat.{mul-comm, mul-le-mul, pow-suc}
 use native.Mathlib.Omega.{arith}
-use lib.ListN.{length, getD, take, drop, length-append, length-drop, List·getD-append}
+use lib.ListN.{length, getD, take, drop, length-drop, List·getD-append}
 use lib.Seq.{getD-append-add, getD-drop, getD-take}
 use lib.Pow.{pow-pos, pow-mono}
 use borrow.Rule.Slice.PartMut.{putMid, take-put}
@@ -18,7 +18,7 @@ use Rattle.rules.specs.Levels.{still, added, wardOrder, arranged, ExclusionRule
 use Rattle.rules.specs.Bitmaps.{rowWords}
 use Rattle.rules.specs.Buffers.{RowAt, FrameAt}
 use Rattle.rules.proofs.FrameLaws.{pixel-fits, row-ext, row-join}
-use Rattle.rules.proofs.LevelLaws.{map-at}
+use Rattle.rules.proofs.LevelLaws.{map-at, counts-length}
 use Rattle.rules.proofs.OffsetLaws.{near-add, near-more, near-pair, near-arranged}
 use Rattle.rules.proofs.PairLaws.{halved-ext, count-ext, pair-ext}
 use Rattle.rules.proofs.AlignmentLaws.{level-pixels-step, level-pixels-at}
@@ -31,16 +31,6 @@ use Rattle.align.specs.Aligns.{Frames, Aligns, alignedIn, countOf}
 nine-at : (count : Offset → ℕ) (centre : Offset) (k : ℕ) → k < 9
     → getD (map count (map (added centre) wardOrder)) k 0 ≡ nineOf count centre k
 nine-at count centre k l = map-at count (map (added centre) wardOrder) still 0 k l
-
--- an answer of s halvings has 9·(s + 1) counts
-pub counts-length : (preferred : List Offset) (rule : ExclusionRule) (percentile s w h : ℕ) (a b : Frame)
-    → length (pair preferred rule percentile s w h a b .counts) ≡ 9 * (s + 1)
-unfolding pair level
-counts-length preferred rule percentile zero w h a b = refl
-counts-length preferred rule percentile (suc s) w h a b =
-    let coarse = pair preferred rule percentile s (w / 2) (h / 2) (halved a) (halved b) in
-    length-append (coarse .counts) (map (countAt rule percentile w h a b) (map (added (added (coarse .offset) (coarse .offset))) wardOrder))
-    ∙ (let e = counts-length preferred rule percentile s (w / 2) (h / 2) (halved a) (halved b) in omega arith)
 
 -- the setup of the next coarser level
 abbrev pub coarser : Setup → Setup

@@ -1,3 +1,2 @@
--- Laws of the choice among the nine, and of Ward's order.
+-- Laws of the choice among the nine.
 pub mod LeadingLaws
-pub mod WardLaws

@@ -1,16 +1,25 @@
-// The centre that a coarser level gives, the nine candidates around a centre, and the choice among their
-// counts in any order of the nine.
+// The centre that a coarser level gives, the nine candidates around a centre, the two orders in which
+// they are preferred, and the choice among their counts in any order of the nine.
 
 use rules::Offset;
+use rules::Order;
 ghost use mathlib.Core.Path.{_≡_};
 ghost use Prim.Native.Nat.{_+_, _<_, _≤_};
 ghost use lib.ListN.{length};
 ghost use Rattle.rules.specs.Limits.{maxOffset, maxCentre};
-ghost use Rattle.rules.specs.Levels.{Arrangement, added, candidateAt, stepOf, Near};
+ghost use Rattle.rules.specs.Levels.{orderOf, Arrangement, arranged, added, candidateAt, stepOf, Near};
 ghost use Rattle.candidates.specs.Leading.{countsBy, Leading};
 
-// Ward's order, by the places of the candidates in it.
-pub const WARD: [usize; 9] = [0, 1, 2, 3, 4, 5, 6, 7, 8];
+// An order of the nine, by the places of the candidates in Ward's.
+pub fn places(order: Order) -> [usize; 9]
+    ensures order { λ r. ⌜ arranged r ≡ orderOf order ⌝ }
+    ensures nine { λ r. ⌜ Arrangement r ⌝ }
+{
+    match order {
+        Order::LeastMove => [4, 1, 7, 3, 5, 0, 2, 6, 8],
+        Order::Ward => [0, 1, 2, 3, 4, 5, 6, 7, 8],
+    }
+}
 
 // An offset of the next coarser level, at this one.
 pub fn doubled(m: Offset) -> Offset

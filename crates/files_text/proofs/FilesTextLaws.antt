@@ -15,7 +15,7 @@ use Rattle.rules.specs.Refusals.{_orElse_, toleranceRefusal}
 use Rattle.rules.specs.Calls.{pairResult}
 use Rattle.rules.specs.Accepted.{PairOk}
 use Rattle.rules.proofs.AlignmentLaws.{pair-ok}
-use Rattle.align.proofs.AlignLaws.{counts-length}
+use Rattle.rules.proofs.LevelLaws.{counts-length}
 use Rattle.ppm_read.specs.declared.Size.{Size}
 use Rattle.ppm_read.specs.declared.SizeRead.{SizeRead}
 use Rattle.p6_header.specs.P6Header.{headerOf}

@@ -44,7 +44,7 @@ unfoldable pub answerText : ℕ → List ℕ → List ℕ
 answerText zero text = text
 answerText (suc n) text = refusedText (suc n)
 
--- the pair call's result, in Ward's order
+-- "`bracket` uses that one": the result of the pair call that keeps Ward's order (document 02, Paper 1)
 abbrev pub wardResult : Size → ℕ → ℕ → ℕ → List ℕ → List ℕ → Aligned
 wardResult size s tolerance percentile first second = pairResult wardOrder (toleranceSetup (size .w) (size .h) s tolerance percentile) first second
 

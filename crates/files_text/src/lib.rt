@@ -54,7 +54,7 @@ fn put_pair(
         ⌝ }
 {
     let mut counts = [0u32; MAX_COUNTS];
-    let answer = pair::pair(
+    let answer = pair::pair_ward(
         size.w,
         size.h,
         s,

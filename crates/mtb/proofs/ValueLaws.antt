@@ -25,7 +25,7 @@ use Rattle.area.specs.declared.Common.{Common}
 use Rattle.area.specs.Common.{common}
 use Rattle.blink.specs.declared.Row.{Row}
 use Rattle.blink.specs.Blink.{rowAt}
-use Rattle.mtb.specs.Values.{valueAfter, refusalIn}
+use Rattle.c_answers.specs.Values.{valueAfter, refusalIn, pairRefusalIn, offsetAfter}
 
 -- A pointer's place after an accepted call, and after a refused one.
 pub value-accepted : {A : Type 0} (k : ℕ) (value x before : A) → 0 ≡ k → x ≡ value → x ≡ valueAfter k value before
@@ -68,11 +68,7 @@ pub thresholded-refused : (k v n : ℕ) → Thresholded.Refused n ≡ thresholde
 thresholded-refused zero v n e = let z : _≡_ {A = ℕ} 0 1 = cc in absurd (omega arith)
 thresholded-refused (suc k) v n e = let d : n ≡ suc k = cc in (d, λ z. omega arith)
 
-pub paired-moved : (k : ℕ) (v x : Offset) → Paired.Moved x ≡ paired k v → (0 ≡ k) × (x ≡ v)
-paired-moved zero v x e = (refl, cc)
-paired-moved (suc k) v x e = let z : _≡_ {A = ℕ} 0 1 = cc in absurd (omega arith)
-
-pub paired-refused : (k : ℕ) (v : Offset) (n : ℕ) → Paired.Refused n ≡ paired k v → (n ≡ k) × (n ≡ 0 → ⊥)
+paired-refused : (k : ℕ) (v : Offset) (n : ℕ) → Paired.Refused n ≡ paired k v → (n ≡ k) × (n ≡ 0 → ⊥)
 paired-refused zero v n e = let z : _≡_ {A = ℕ} 0 1 = cc in absurd (omega arith)
 paired-refused (suc k) v n e = let d : n ≡ suc k = cc in (d, λ z. omega arith)
 
@@ -113,14 +109,13 @@ row-refused zero v n e = let z : _≡_ {A = ℕ} 0 1 = cc in absurd (omega arith
 row-refused (suc k) v n e = let d : n ≡ suc k = cc in (d, λ z. omega arith)
 
 -- What a call leaves, by the number that C gets in the place of its answer.
-module _ (number : ℕ) (result : Aligned) (counts counts′ grey grey′ words words′ : List ℕ) (r : Paired) (left : PairLeft number result counts counts′ grey grey′ words words′ r) where
-  pub pair-accepted : (m : Offset) → r ≡ Paired.Moved m → PairLeft number result counts counts′ grey grey′ words words′ (paired 0 m)
-  pair-accepted m e = subst (PairLeft number result counts counts′ grey grey′ words words′) e left
-
-  pub pair-refused : (n : ℕ) (m : Offset) → r ≡ Paired.Refused n → PairLeft number result counts counts′ grey grey′ words words′ (paired n m) × (n ≡ 0 → ⊥)
-  pair-refused n m e =
-      let l = paired-refused number (result .offset) n (sym e ∙ left .answered) .1 in
-      (subst (PairLeft number result counts counts′ grey grey′ words words′) (e ∙ refused-is n m l) left, l)
+pub pair-left : (number : ℕ) (result : Aligned) (counts counts′ grey grey′ words words′ : List ℕ) (r : Paired) (n : ℕ) (before after : Offset)
+    → PairLeft number result counts counts′ grey grey′ words words′ r → after ≡ offsetAfter r before → n ≡ pairRefusalIn r
+    → PairLeft number result counts counts′ grey grey′ words words′ (paired n after) × ((n ≡ 0 → ⊥) → after ≡ before)
+pair-left number result counts counts′ grey grey′ words words′ (Paired.Moved m) n before after left o e = (rw (e, o) left, λ f. absurd (f e))
+pair-left number result counts counts′ grey grey′ words words′ (Paired.Refused k) n before after left o e =
+    let l = paired-refused number (result .offset) k (left .answered) .1 in
+    (rw (e) (subst (PairLeft number result counts counts′ grey grey′ words words′) (refused-is k after l) left), λ f. o)
 
 pub fills-left : (number : ℕ) (out before after : List ℕ) (r : Written) (n : ℕ) → Fills number out before after r → n ≡ refusalIn r
     → Fills number out before after (written n)

@@ -3,14 +3,16 @@
 
 ghost use mathlib.Core.Path.{_≡_};
 ghost use Rattle.rules.specs.Answers.{written, paired};
-ghost use Rattle.rules.specs.Levels.{wardOrder};
+ghost use Rattle.rules.specs.Levels.{wardOrder, leastMoveOrder};
 ghost use Rattle.rules.specs.Calls.{toleranceSetup, PairCall, toleranceSettings, SeriesCall};
 ghost use Rattle.rules.specs.Refusals.{shapeRefusal, greyNeeded, wordsNeeded};
-ghost use Rattle.mtb.specs.Values.{valueAfter, offset};
-use crate::numbers::refusal_in;
+ghost use Rattle.c_answers.specs.Values.{valueAfter, offset};
+use c_answers::moved_into;
+use c_answers::refusal_in;
 use pair::pair;
-use rules::Paired;
+use pair::pair_ward;
 use series::series;
+use series::series_ward;
 use work_memory::grey_memory;
 use work_memory::shape_refusal;
 use work_memory::word_memory;
@@ -31,13 +33,13 @@ pub extern "C" fn mtb_pair(
     words: &mut [u64],
 ) -> u32
     ensures call { λ n. ⌜
-        PairCall wardOrder (toleranceSetup w h s tolerance percentile) (now (first .entry)) (now (second .entry))
+        PairCall leastMoveOrder (toleranceSetup w h s tolerance percentile) (now (first .entry)) (now (second .entry))
         (now (counts .entry)) (now (counts .exit)) (now (grey .entry)) (now (grey .exit)) (now (words .entry)) (now (words .exit))
         (paired n (offset (now (dx .exit)) (now (dy .exit))))
         ⌝ }
     ensures refused { λ n. ⌜ ((n ≡ 0 → ⊥) → (now (dx .exit) ≡ now (dx .entry)) × (now (dy .exit) ≡ now (dy .entry))) ⌝ }
 {
-    match pair(
+    let answer = pair(
         w as usize,
         h as usize,
         s,
@@ -48,20 +50,86 @@ pub extern "C" fn mtb_pair(
         counts,
         grey,
         words,
-    ) {
-        Paired::Moved(offset) => {
-            let x = offset.dx;
-            let y = offset.dy;
-            *dx = x;
-            *dy = y;
-            0
-        }
-        Paired::Refused(n) => n,
-    }
+    );
+    moved_into(answer, dx, dy)
 }
 
 #[no_mangle]
 pub extern "C" fn mtb_series(
+    w: u32,
+    h: u32,
+    s: u32,
+    tolerance: u32,
+    n: u32,
+    r: u32,
+    percentiles: &[u32],
+    rasters: &[u8],
+    offsets: &mut [i32],
+    counts: &mut [u32],
+    grey: &mut [u8],
+    words: &mut [u64],
+) -> u32
+    ensures { λ k. ⌜
+        SeriesCall leastMoveOrder (toleranceSettings w h s tolerance n r (now (percentiles .entry))) (now (rasters .entry))
+        (now (offsets .entry)) (now (offsets .exit)) (now (counts .entry)) (now (counts .exit))
+        (now (grey .entry)) (now (grey .exit)) (now (words .entry)) (now (words .exit)) (written k)
+        ⌝ }
+{
+    refusal_in(series(
+        w as usize,
+        h as usize,
+        s,
+        tolerance,
+        n as usize,
+        r as usize,
+        percentiles,
+        rasters,
+        offsets,
+        counts,
+        grey,
+        words,
+    ))
+}
+
+#[no_mangle]
+pub extern "C" fn mtb_pair_ward(
+    w: u32,
+    h: u32,
+    s: u32,
+    tolerance: u32,
+    percentile: u32,
+    first: &[u8],
+    second: &[u8],
+    dx: &mut i32,
+    dy: &mut i32,
+    counts: &mut [u32],
+    grey: &mut [u8],
+    words: &mut [u64],
+) -> u32
+    ensures call { λ n. ⌜
+        PairCall wardOrder (toleranceSetup w h s tolerance percentile) (now (first .entry)) (now (second .entry))
+        (now (counts .entry)) (now (counts .exit)) (now (grey .entry)) (now (grey .exit)) (now (words .entry)) (now (words .exit))
+        (paired n (offset (now (dx .exit)) (now (dy .exit))))
+        ⌝ }
+    ensures refused { λ n. ⌜ ((n ≡ 0 → ⊥) → (now (dx .exit) ≡ now (dx .entry)) × (now (dy .exit) ≡ now (dy .entry))) ⌝ }
+{
+    let answer = pair_ward(
+        w as usize,
+        h as usize,
+        s,
+        tolerance,
+        percentile,
+        first,
+        second,
+        counts,
+        grey,
+        words,
+    );
+    moved_into(answer, dx, dy)
+}
+
+#[no_mangle]
+pub extern "C" fn mtb_series_ward(
     w: u32,
     h: u32,
     s: u32,
@@ -81,7 +149,7 @@ pub extern "C" fn mtb_series(
         (now (grey .entry)) (now (grey .exit)) (now (words .entry)) (now (words .exit)) (written k)
         ⌝ }
 {
-    refusal_in(series(
+    refusal_in(series_ward(
         w as usize,
         h as usize,
         s,

@@ -8,8 +8,8 @@ ghost use Rattle.rules.specs.Planes.{total};
 ghost use Rattle.rules.specs.Differences.{difference};
 ghost use Rattle.rules.specs.Refusals.{totalRefusal, differenceRefusal};
 ghost use Rattle.rules.specs.Calls.{BitmapsCall, ShiftCall, planesOf};
-ghost use Rattle.mtb.specs.Values.{valueAfter};
-use crate::numbers::refusal_in;
+ghost use Rattle.c_answers.specs.Values.{valueAfter};
+use c_answers::refusal_in;
 use rules::Counted;
 
 #[no_mangle]

@@ -3,6 +3,5 @@
 mod alignment;
 mod bitmaps;
 mod greys;
-mod numbers;
 mod p6;
 mod views;

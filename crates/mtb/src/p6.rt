@@ -5,7 +5,7 @@ ghost use lib.ListN.{length};
 ghost use Rattle.p6_header.specs.P6Header.{headerOf, startIn};
 ghost use Rattle.ppm_read.specs.P6.{p6Refusal, sizeIn, rasterOf};
 ghost use Rattle.ppm_write.specs.P6Writes.{fileWritten, WriteCall};
-ghost use Rattle.mtb.specs.Values.{valueAfter};
+ghost use Rattle.c_answers.specs.Values.{valueAfter};
 use ppm_read::SizeRead;
 use ppm_read::p6_raster;
 use ppm_read::p6_size;

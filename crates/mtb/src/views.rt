@@ -6,13 +6,13 @@ ghost use Rattle.area.specs.Common.{areaRefusal, commonArea};
 ghost use Rattle.moved.specs.Moved.{MovedCall};
 ghost use Rattle.rules.specs.Answers.{written};
 ghost use Rattle.blink.specs.Blink.{blinkRefusal, rowStart, blinkRow};
-ghost use Rattle.mtb.specs.Values.{valueAfter};
-use crate::numbers::refusal_in;
+ghost use Rattle.c_answers.specs.Values.{valueAfter};
 use area::Common;
 use area::common_area;
 use blink::Row;
 use blink::blink_row;
 use blink::blink_start;
+use c_answers::refusal_in;
 use moved::moved;
 
 #[no_mangle]

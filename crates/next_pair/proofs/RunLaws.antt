@@ -29,7 +29,7 @@ use Rattle.rules.proofs.OffsetLaws.{near-pair, near-arranged, near-more}
 use Rattle.rules.proofs.AlignmentLaws.{level-pixels-at}
 use Rattle.grey.specs.GreyPlaces.{greyAt}
 use Rattle.align.specs.Aligns.{Frames, Aligns, alignedIn}
-use Rattle.align.proofs.AlignLaws.{counts-length}
+use Rattle.rules.proofs.LevelLaws.{counts-length}
 use Rattle.align.proofs.WrittenLaws.{converted, row-written}
 use Rattle.offsets.specs.PairOffsets.{withOffset, SmallPairs}
 use Rattle.offsets.proofs.PairOffsetLaws.{put-next, written-length, written-pair}

@@ -83,8 +83,10 @@ differs-at-tolerance-1 = record {
         let pixel = all-at 4 (alikeTo k x) (all-at 4 (λ z. all 4 (alikeTo k z)) frame x a) y b in
         same-is _ _ (all-at 4 (alikeAt k x y u) (all-at 4 (λ z. all 4 (alikeAt k x y z)) pixel u c) v d);
   };
-  answer = refl;
-  answer′ = refl;
+  leastMove = refl;
+  leastMove′ = refl;
+  ward = refl;
+  ward′ = refl;
 }
 
 pub one-not-by-order : OneNotByOrder

@@ -4,11 +4,12 @@ use mathlib.Core.List.{List, [], _∷_, _++_}
 use Prim.Native.Nat.{ℕ}
 use lib.IntN.{pos, negsuc}
 use lib.ListN.{length}
-use Rattle.rules.specs.Levels.{wardOrder, byTolerance}
+use Rattle.rules.specs.Levels.{wardOrder, leastMoveOrder, byTolerance}
 use Rattle.rules.specs.Refusals.{toleranceRefusal, seriesRefusal}
 use Rattle.rules.specs.Series.{Settings, seriesAnswer}
 use Rattle.rules.specs.Calls.{toleranceSettings}
 use Rattle.rules.specs.Examples.{firstRows, secondRows, colourless}
+use Rattle.rules.specs.FlatFrames.{zeros}
 use Rattle.reexposure.specs.Reexposure.{Reexposed, Bytes, ByOrder}
 
 -- two frames of 4 by 4, s = 0, T = 1, the first the reference, P = 50
@@ -26,17 +27,22 @@ taken = exchanged 10 20 90
 abbrev pub takenAgain : List ℕ
 takenAgain = exchanged 3 4 200
 
+abbrev pub takenCounts : List ℕ
+takenCounts = 8 ∷ 10 ∷ 8 ∷ 6 ∷ 7 ∷ 5 ∷ 0 ∷ 0 ∷ 0 ∷ []
+
 -- Both are accepted, in buffers of just the lengths needed, and one is the other re-exposed. The threshold, 20 and 4, leaves out the dark pixels
 -- of the second exposure but not those of the first: 3 is within 1 of 4, 10 is not of 20. Then no two pixels that are left differ, every count is 0,
--- and the first candidate is taken: the mount goes left by 1 where it should go right by 1.
+-- and the first candidate is taken: by the least move the mount stays where it should go right by 1, in Ward's order it goes left by 1.
 pub record DiffersAtTolerance1 : Type 0 where
   pub accepted : seriesRefusal 4 4 0 (toleranceRefusal 1) 2 0 (50 ∷ []) (length taken) 4 9 32 24 ≡ 0
   pub accepted′ : seriesRefusal 4 4 0 (toleranceRefusal 1) 2 0 (50 ∷ []) (length takenAgain) 4 9 32 24 ≡ 0
   pub bytes : Bytes taken
   pub bytes′ : Bytes takenAgain
   pub reexposed : Reexposed atTolerance1 taken takenAgain
-  pub answer : seriesAnswer wardOrder atTolerance1 taken ≡ record { offsets = pos 0 ∷ pos 0 ∷ pos 1 ∷ negsuc 0 ∷ []; counts = 8 ∷ 10 ∷ 8 ∷ 6 ∷ 7 ∷ 5 ∷ 0 ∷ 0 ∷ 0 ∷ [] }
-  pub answer′ : seriesAnswer wardOrder atTolerance1 takenAgain ≡ record { offsets = pos 0 ∷ pos 0 ∷ negsuc 0 ∷ negsuc 0 ∷ []; counts = 0 ∷ 0 ∷ 0 ∷ 0 ∷ 0 ∷ 0 ∷ 0 ∷ 0 ∷ 0 ∷ [] }
+  pub leastMove : seriesAnswer leastMoveOrder atTolerance1 taken ≡ record { offsets = pos 0 ∷ pos 0 ∷ pos 1 ∷ pos 0 ∷ []; counts = takenCounts }
+  pub leastMove′ : seriesAnswer leastMoveOrder atTolerance1 takenAgain ≡ record { offsets = pos 0 ∷ pos 0 ∷ pos 0 ∷ pos 0 ∷ []; counts = zeros 9 }
+  pub ward : seriesAnswer wardOrder atTolerance1 taken ≡ record { offsets = pos 0 ∷ pos 0 ∷ pos 1 ∷ negsuc 0 ∷ []; counts = takenCounts }
+  pub ward′ : seriesAnswer wardOrder atTolerance1 takenAgain ≡ record { offsets = pos 0 ∷ pos 0 ∷ negsuc 0 ∷ negsuc 0 ∷ []; counts = zeros 9 }
 
 -- So tolerance 1 is no rule that sees grey values by their order alone. (Both are proved in proofs/Tolerance1Laws.antt.)
 abbrev pub OneNotByOrder : Type 0

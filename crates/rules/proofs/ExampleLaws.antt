@@ -10,11 +10,13 @@ use Rattle.rules.specs.Greys.{grey, greyFrame, insert, sorted, secondSma
 use Rattle.rules.specs.Thresholds.{atMost, reaches, least, threshold}
 use Rattle.rules.specs.Planes.{thresholdBit, distance, exclusionBit, bitsBy, within}
 use Rattle.rules.specs.Differences.{Planes, differ, differAt, difference}
-use Rattle.rules.specs.Levels.{still, wardOrder, byTolerance, planesBy, Aligned, firstLeast, chosen, level, countAt, pair}
+use Rattle.rules.specs.Levels.{still, wardOrder, leastMoveOrder, byTolerance, planesBy, Aligned, firstLeast, chosen, level, countAt, pair}
+use Rattle.rules.specs.declared.Offset.{Offset}
 use Rattle.rules.specs.Calls.{pairResult}
 use Rattle.rules.specs.Examples.{ExamplesHold, one, oneToFour, firstRows, secondRows, colourless, numbers, printedResult, aligned}
 use Rattle.rules.specs.TwoLevels.{TwoLevels}
-use Rattle.rules.specs.FlatFrames.{flat, flatPlate}
+use Rattle.rules.specs.Ties.{tiedFirst, tiedSecond, tiedBy, Tied}
+use Rattle.rules.specs.FlatFrames.{flat, plateUnmoved, plateInCorner}
 
 -- the two planes once the threshold is known, so that it is worked out once and not for each pixel
 abbrev planesAt : ℕ → Frame → Planes
@@ -74,8 +76,18 @@ unfolding sum sumPixels frameOf insert sorted secondSmallest halved atMost reach
     distance exclusionBit within differ differAt difference planesBy firstLeast chosen level countAt pair
 two-levels = refl
 
--- the flat plate at grey 0; FlatLaws.antt and FlatRasterLaws.antt have it for every flat frame
-flat-computed : pair wardOrder (byTolerance 0) 50 2 16 16 (flat 0) (flat 0) ≡ flatPlate
+-- a tie by both orders, on the grey rows
+tied-rows : (order : List Offset) → tiedBy order ≡ pair order (byTolerance 0) 50 1 8 8 (frameOf 8 tiedFirst) (frameOf 8 tiedSecond)
+unfolding pairResult
+tied-rows order = ap₂ (λ (f g : Frame). pair order (byTolerance 0) 50 1 8 8 f g) (colourless-frame 8 tiedFirst) (colourless-frame 8 tiedSecond)
+
+pub tied : Tied
+unfolding sum sumPixels frameOf insert sorted secondSmallest halved atMost reaches least threshold thresholdBit
+    distance exclusionBit within differ differAt difference planesBy firstLeast chosen level countAt pair
+tied = record { leastMove = tied-rows leastMoveOrder; ward = tied-rows wardOrder }
+
+-- the flat plate at grey 0 by both orders; FlatLaws.antt and FlatRasterLaws.antt have it for every flat frame
+flat-computed : (pair leastMoveOrder (byTolerance 0) 50 2 16 16 (flat 0) (flat 0) ≡ plateUnmoved) × (pair wardOrder (byTolerance 0) 50 2 16 16 (flat 0) (flat 0) ≡ plateInCorner)
 unfolding sum sumPixels insert sorted secondSmallest halved atMost reaches least threshold thresholdBit
     distance exclusionBit within differ differAt difference planesBy firstLeast chosen level countAt pair
-flat-computed = refl
+flat-computed = (refl, refl)

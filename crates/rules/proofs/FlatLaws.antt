@@ -1,13 +1,13 @@
--- Flat frames: every pixel is left out, so every count is 0, and the first candidate of each level is taken.
-use mathlib.Core.Path.{_≡_, refl, sym, ap, ap₂, fun-ext, _∙_}
+-- Flat frames: every pixel is left out, so every count is 0.
+use mathlib.Core.Path.{_≡_, refl, sym, ap, ap₂, subst, fun-ext, _∙_}
 use mathlib.Core.Bool.{true, false}
-use mathlib.Core.List.{List, [], _∷_, _++_}
+use mathlib.Core.List.{List, _∷_, _++_, map}
 use Prim.Native.Nat.{ℕ, zero, suc, _+_, _*_, _-_, _/_, _^_, _≤_, _<_, min, max}
 use native.Mathlib.Nat.{mul-pos, mul-comm, mul-le-mul-right}
 use native.Mathlib.Omega.{arith}
 use lib.Dec.{leb, ltb}
-use lib.IntN.{ℤ, pos, negsuc, negℤ, _+ℤ_, _-ℤ_, negℤ-+ℤ}
-use lib.Pow.{pow-pos}
+use lib.IntN.{ℤ, pos, negsuc, _-ℤ_}
+use lib.ListN.{getD}
 use borrow.Author.Tests.{le-leb, lt-leb, le-ltb}
 use Rattle.rules.specs.Limits.{maxGrey}
 use Rattle.rules.specs.Sums.{gate, oneIf}
@@ -17,11 +17,13 @@ use Rattle.rules.specs.Thresholds.{atMost, reaches, threshold}
 use Rattle.rules.specs.Planes.{distance, exclusionBit, within}
 use Rattle.rules.specs.Differences.{Planes, differ, differAt, difference}
 use Rattle.rules.specs.declared.Offset.{Offset}
-use Rattle.rules.specs.Levels.{still, added, wardOrder, byTolerance, planesBy, firstLeast, chosen, Aligned, level, countAt, pair}
-use Rattle.rules.specs.FlatFrames.{flat, zeros, farthest}
+use Rattle.rules.specs.Levels.{still, added, wardOrder, arranged, Arrangement, byTolerance, planesBy, level, countAt, pair}
+use Rattle.rules.specs.BlankSky.{Equal}
+use Rattle.rules.specs.FlatFrames.{flat, zeros, blank}
 use Rattle.rules.proofs.SumLaws.{gate-zero, pixels-zero, pixels-all}
 use Rattle.rules.proofs.ThresholdLaws.{least-is}
 use Rattle.rules.proofs.GreyLaws.{second-formula}
+use Rattle.rules.proofs.SkyLaws.{timesStep, firstStep, equal-counts}
 
 within-zero : (n : ℕ) (z : ℤ) (f : ℕ → ℕ) → ((k : ℕ) → f k ≡ 0) → within n z f ≡ 0
 unfolding within
@@ -72,40 +74,37 @@ module _ (tolerance percentile w h v : ℕ) (some : 1 ≤ percentile) (most : pe
   unfolding countAt difference
   no-count = fun-ext (λ m. pixels-zero w h (differAt w h (m .dx) (m .dy) planes planes) (none-differs m))
 
--- with every count 0 a level takes the first candidate
-first-taken : (centre : Offset) (coarser : List ℕ)
-    → level wardOrder (λ m. 0) centre coarser ≡ record { offset = added centre (record { dx = negsuc 0; dy = negsuc 0 }); counts = coarser ++ zeros 9 }
-unfolding level chosen firstLeast
-first-taken centre coarser = refl
-
--- numbers below 0 added
-pub neg-add : (m n : ℕ) → negℤ (pos m) +ℤ negℤ (pos n) ≡ negℤ (pos (m + n))
-neg-add m n = sym (negℤ-+ℤ (pos m) (pos n))
-
 more-zeros : (m n : ℕ) → zeros m ++ zeros n ≡ zeros (m + n)
 more-zeros zero n = let e : n ≡ 0 + n = omega arith in ap zeros e
 more-zeros (suc m) n = let e : suc (m + n) ≡ suc m + n = omega arith in ap (λ (l : List ℕ). 0 ∷ l) (more-zeros m n) ∙ ap zeros e
 
-next-level : (s : ℕ) → level wardOrder (λ m. 0) (added (farthest s .offset) (farthest s .offset)) (farthest s .counts) ≡ farthest (suc s)
-next-level s =
-    let n : ℕ = 2 ^ suc s - 1 in
-    let e : n + n + 1 ≡ 2 ^ suc (suc s) - 1 = omega (arith, pow-pos s) in
-    let z : ℤ = negℤ (pos n) in
-    let d : z +ℤ z +ℤ negsuc 0 ≡ negℤ (pos (2 ^ suc (suc s) - 1)) =
-    ap (λ (k : ℤ). k +ℤ negsuc 0) (neg-add n n) ∙ neg-add (n + n) 1 ∙ ap (λ (k : ℕ). negℤ (pos k)) e in
-    let m : 9 * (s + 1) + 9 ≡ 9 * (suc s + 1) = omega arith in
-    let c : zeros (9 * (s + 1)) ++ zeros 9 ≡ zeros (9 * (suc s + 1)) = more-zeros (9 * (s + 1)) 9 ∙ ap zeros m in
-    first-taken (added (farthest s .offset) (farthest s .offset)) (farthest s .counts) ∙ (λ i. record { offset = record { dx = d i; dy = d i }; counts = c i })
+zero-at : (n k : ℕ) → getD (zeros n) k 0 ≡ 0
+zero-at zero k = refl
+zero-at (suc n) zero = refl
+zero-at (suc n) (suc k) = zero-at n k
 
-pub flat-pair : (tolerance percentile v : ℕ) → 1 ≤ percentile → percentile ≤ 99 → v ≤ maxGrey
-    → (s w h : ℕ) → pair wardOrder (byTolerance tolerance) percentile s w h (flat v) (flat v) ≡ farthest s
-unfolding pair
-flat-pair tolerance percentile v some most byte zero w h =
-    ap (λ (c : Offset → ℕ). level wardOrder c still []) (no-count tolerance percentile w h v some most byte) ∙ first-taken still []
-flat-pair tolerance percentile v some most byte (suc s) w h =
-    ap₂
-    (λ (c : Offset → ℕ) (coarse : Aligned). level wardOrder c (added (coarse .offset) (coarse .offset)) (coarse .counts))
+-- every count of every level, whatever its centre
+flat-counts : (order : List Offset) (tolerance percentile v : ℕ) → 1 ≤ percentile → percentile ≤ 99 → v ≤ maxGrey
+    → (s w h : ℕ) → pair order (byTolerance tolerance) percentile s w h (flat v) (flat v) .counts ≡ zeros (9 * (s + 1))
+unfolding pair level
+flat-counts order tolerance percentile v some most byte zero w h =
+    ap (λ (c : Offset → ℕ). map c (map (added still) wardOrder)) (no-count tolerance percentile w h v some most byte)
+flat-counts order tolerance percentile v some most byte (suc s) w h =
+    let coarse = pair order (byTolerance tolerance) percentile s (w / 2) (h / 2) (halved (flat v)) (halved (flat v)) in
+    let m : 9 * (s + 1) + 9 ≡ 9 * (suc s + 1) = omega arith in
+    ap₂ (λ (l : List ℕ) (c : Offset → ℕ). l ++ map c (map (added (added (coarse .offset) (coarse .offset))) wardOrder))
+    (ap (λ (f : Frame). pair order (byTolerance tolerance) percentile s (w / 2) (h / 2) f f .counts) (flat-halved v)
+    ∙ flat-counts order tolerance percentile v some most byte s (w / 2) (h / 2))
     (no-count tolerance percentile w h v some most byte)
-    (ap (λ (f : Frame). pair wardOrder (byTolerance tolerance) percentile s (w / 2) (h / 2) f f) (flat-halved v)
-    ∙ flat-pair tolerance percentile v some most byte s (w / 2) (h / 2))
-    ∙ next-level s
+    ∙ more-zeros (9 * (s + 1)) 9
+    ∙ ap zeros m
+
+-- in any order of the nine the first step is taken at each level
+pub flat-pair : (places : List ℕ) (fits : Arrangement places) (tolerance percentile v : ℕ) → 1 ≤ percentile → percentile ≤ 99 → v ≤ maxGrey
+    → (s w h : ℕ) → pair (arranged places) (byTolerance tolerance) percentile s w h (flat v) (flat v) ≡ blank s (timesStep (2 ^ suc s - 1) (firstStep places fits))
+flat-pair places fits tolerance percentile v some most byte s w h =
+    let zeroed = flat-counts (arranged places) tolerance percentile v some most byte s w h in
+    let n : ℕ = 9 * (s + 1) in
+    let moved = equal-counts places fits (byTolerance tolerance) percentile s w h (flat v) (flat v)
+    (subst (Equal s) (sym zeroed) (λ k j l m. zero-at n (9 * k + j) ∙ sym (zero-at n (9 * k)))) in
+    λ i. record { offset = moved i; counts = zeroed i }

@@ -1,15 +1,17 @@
 -- Laws of a level's answer: the candidate chosen, by its place among the nine.
-use mathlib.Core.Path.{_≡_, refl, sym, ap}
+use mathlib.Core.Path.{_≡_, refl, sym, ap, _∙_}
 use mathlib.Core.Bool.{Bool, true, false, cond}
 use mathlib.Core.List.{List, [], _∷_, map}
-use Prim.Native.Nat.{ℕ, zero, suc, _/_, _%_, _≤_, _<_}
+use Prim.Native.Nat.{ℕ, zero, suc, _+_, _*_, _/_, _%_, _≤_, _<_}
 use native.Mathlib.Omega.{arith}
 use lib.Dec.{eqb, ltb}
-use lib.ListN.{length, getD}
+use lib.ListN.{length, getD, length-append}
 use borrow.Author.Tests.{ltb-true, ltb-false, eqb-true}
 use Rattle.rules.specs.declared.Offset.{Offset}
+use Rattle.rules.specs.Frames.{Frame}
+use Rattle.rules.specs.Greys.{halved}
 use Rattle.rules.proofs.CaseLaws.{all, all-at}
-use Rattle.rules.specs.Levels.{still, added, wardOrder, arranged, times, Arrangement, firstLeast, chosen, candidateAt, stepOf}
+use Rattle.rules.specs.Levels.{still, added, wardOrder, arranged, times, Arrangement, ExclusionRule, firstLeast, chosen, candidateAt, stepOf, level, countAt, pair}
 
 -- place r of a list has the least count, and every place before it a greater one
 pub record FirstLeast (count : Offset → ℕ) (ms : List Offset) (r : ℕ) : Type 0 where
@@ -81,6 +83,21 @@ arrangement places nine below once = record {
   once = λ p l. eqb-true (times p places) 1 (all-at 9 (λ k. eqb (times k places) 1) once p l);
 }
 
+-- the places of the two orders: `arranged` makes `wardOrder` and `leastMoveOrder` of them
+abbrev pub wardPlaces : List ℕ
+wardPlaces = 0 ∷ 1 ∷ 2 ∷ 3 ∷ 4 ∷ 5 ∷ 6 ∷ 7 ∷ 8 ∷ []
+
+abbrev pub leastMovePlaces : List ℕ
+leastMovePlaces = 4 ∷ 1 ∷ 7 ∷ 3 ∷ 5 ∷ 0 ∷ 2 ∷ 6 ∷ 8 ∷ []
+
+pub ward-arrangement : Arrangement wardPlaces
+unfolding all times
+ward-arrangement = arrangement _ refl refl refl
+
+pub least-move-arrangement : Arrangement leastMovePlaces
+unfolding all times
+least-move-arrangement = arrangement _ refl refl refl
+
 -- a list made element by element, at a place
 pub map-at : {A B : Type 0} (f : A → B) (l : List A) (a : A) (b : B) (k : ℕ) → k < length l → getD (map f l) k b ≡ f (getD l k a)
 map-at f [] a b k l = absurd (omega arith)
@@ -97,3 +114,12 @@ arranged-at centre (p ∷ ps) (suc j) l m = arranged-at centre ps j (omega arith
 pub arranged-length : (centre : Offset) (places : List ℕ) → length (map (added centre) (arranged places)) ≡ length places
 arranged-length centre [] = refl
 arranged-length centre (p ∷ ps) = ap suc (arranged-length centre ps)
+
+-- an answer of s halvings has 9·(s + 1) counts
+pub counts-length : (order : List Offset) (rule : ExclusionRule) (percentile s w h : ℕ) (a b : Frame) → length (pair order rule percentile s w h a b .counts) ≡ 9 * (s + 1)
+unfolding pair level
+counts-length order rule percentile zero w h a b = refl
+counts-length order rule percentile (suc s) w h a b =
+    let coarse = pair order rule percentile s (w / 2) (h / 2) (halved a) (halved b) in
+    length-append (coarse .counts) (map (countAt rule percentile w h a b) (map (added (added (coarse .offset) (coarse .offset))) wardOrder))
+    ∙ (let e = counts-length order rule percentile s (w / 2) (h / 2) (halved a) (halved b) in omega arith)

@@ -1,6 +1,5 @@
 -- Laws of the definitions in specs/, for the proofs of the crates above.
 pub mod ExampleLaws
-pub mod FlatLaws
 pub mod SumLaws
 pub mod CaseLaws
 pub mod FilledLaws
@@ -12,6 +11,8 @@ pub mod DifferenceLaws
 pub mod AlignmentLaws
 pub mod OffsetLaws
 pub mod LevelLaws
+pub mod SkyLaws
+pub mod FlatLaws
 pub mod SignedLaws
 pub mod PairLaws
 pub mod SeriesLaws

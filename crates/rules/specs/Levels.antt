@@ -7,6 +7,7 @@ use lib.Dec.{eqb, ltb}
 use lib.IntN.{ℤ, pos, negsuc, natAbs, _+ℤ_}
 use lib.ListN.{length, getD}
 use Rattle.rules.specs.declared.Offset.{Offset}
+use Rattle.rules.specs.declared.Order.{Order}
 use Rattle.rules.specs.declared.Exclusion.{Exclusion}
 use Rattle.rules.specs.declared.Setup.{Setup}
 use Rattle.rules.specs.Sums.{oneIf}
@@ -33,15 +34,26 @@ abbrev pub Every : (Offset → Type 0) → List Offset → Type 0
 Every P [] = Unit {0}
 Every P (m ∷ ms) = P m × Every P ms
 
+abbrev step : ℤ → ℤ → Offset
+step i j = record { dx = i; dy = j }
+
 -- "i from −1 to 1 outside, j from −1 to 1 inside"
 abbrev pub wardOrder : List Offset
 wardOrder =
     step (negsuc 0) (negsuc 0) ∷ step (negsuc 0) (pos 0) ∷ step (negsuc 0) (pos 1)
     ∷ step (pos 0) (negsuc 0) ∷ step (pos 0) (pos 0) ∷ step (pos 0) (pos 1)
     ∷ step (pos 1) (negsuc 0) ∷ step (pos 1) (pos 0) ∷ step (pos 1) (pos 1) ∷ []
-  where
-    step : ℤ → ℤ → Offset
-    step i j = record { dx = i; dy = j }
+
+-- "prefer the least move: (0,0), (−1,0), (1,0), (0,−1), (0,1), (−1,−1), (−1,1), (1,−1), (1,1) around the centre" (document 02, Paper 1)
+abbrev pub leastMoveOrder : List Offset
+leastMoveOrder =
+    step (pos 0) (pos 0)
+    ∷ step (negsuc 0) (pos 0) ∷ step (pos 1) (pos 0) ∷ step (pos 0) (negsuc 0) ∷ step (pos 0) (pos 1)
+    ∷ step (negsuc 0) (negsuc 0) ∷ step (negsuc 0) (pos 1) ∷ step (pos 1) (negsuc 0) ∷ step (pos 1) (pos 1) ∷ []
+
+abbrev pub orderOf : Order → List Offset
+orderOf Order.LeastMove = leastMoveOrder
+orderOf Order.Ward = wardOrder
 
 -- An order of the nine in which candidates are preferred, by their places in Ward's order.
 abbrev pub arranged : List ℕ → List Offset
@@ -107,7 +119,7 @@ pub record Aligned : Type 0 where
   pub counts : List ℕ
 
 -- "With centre (cx,cy) the nine candidates are (cx+i, cy+j)": the level's answer after the coarser counts.
--- Candidates are preferred in the given order; counts are written in Ward's.
+-- Candidates are preferred in the given order; "counts are still written in the former order", Ward's.
 unfoldable pub level : List Offset → (Offset → ℕ) → Offset → List ℕ → Aligned
 level order count centre coarser =
     record {

@@ -17,4 +17,6 @@ pub mod Series
 pub mod Calls
 pub mod Examples
 pub mod TwoLevels
+pub mod Ties
+pub mod BlankSky
 pub mod FlatFrames

@@ -24,6 +24,12 @@ pub struct Offset {
     pub dy: i32,
 }
 
+// In which order a level prefers its nine candidates among equal counts.
+pub enum Order {
+    LeastMove,
+    Ward,
+}
+
 // Which grey values near the threshold a level leaves out.
 pub enum Exclusion {
     // those at most this far from it

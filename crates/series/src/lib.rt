@@ -1,19 +1,62 @@
-// Alignment of a series: the offered call.
+// Alignment of a series: the two offered calls, which differ in the order that they lend.
 
-mod aligning;
-
-use align_refusals::series_refusal;
-use aligning::align_series;
-use candidates::WARD;
+use candidates::places;
 use refusals::tolerance_refusal;
 use rules::Exclusion;
+use rules::Order;
 use rules::Setup;
 use rules::Written;
-ghost use Rattle.rules.specs.Levels.{wardOrder};
+use series_in_order::series_in_order;
+ghost use Rattle.rules.specs.Levels.{wardOrder, leastMoveOrder};
 ghost use Rattle.rules.specs.Calls.{toleranceSettings, SeriesCall};
 
-// The offsets of all frames of a series from its reference, and the counts of its pairs.
+// The offsets of all frames of a series from its reference, and the counts of its pairs. Among equal
+// counts the least move is preferred.
 pub fn series(
+    w: usize,
+    h: usize,
+    s: u32,
+    tolerance: u32,
+    n: usize,
+    r: usize,
+    percentiles: &[u32],
+    rasters: &[u8],
+    offsets: &mut [i32],
+    counts: &mut [u32],
+    grey: &mut [u8],
+    words: &mut [u64],
+) -> Written
+    ensures { λ k. ⌜
+        SeriesCall leastMoveOrder (toleranceSettings w h s tolerance n r (now (percentiles .entry))) (now (rasters .entry))
+        (now (offsets .entry)) (now (offsets .exit)) (now (counts .entry)) (now (counts .exit))
+        (now (grey .entry)) (now (grey .exit)) (now (words .entry)) (now (words .exit)) k
+        ⌝ }
+{
+    let setup = Setup {
+        w,
+        h,
+        s,
+        percentile: 0,
+        exclusion: Exclusion::Tolerance(tolerance),
+    };
+    let order = places(Order::LeastMove);
+    series_in_order(
+        setup,
+        tolerance_refusal(tolerance),
+        n,
+        r,
+        percentiles,
+        rasters,
+        offsets,
+        counts,
+        grey,
+        words,
+        &order,
+    )
+}
+
+// The same in Ward's order.
+pub fn series_ward(
     w: usize,
     h: usize,
     s: u32,
@@ -33,25 +76,6 @@ pub fn series(
         (now (grey .entry)) (now (grey .exit)) (now (words .entry)) (now (words .exit)) k
         ⌝ }
 {
-    let excluded = tolerance_refusal(tolerance);
-    let number = series_refusal(
-        w,
-        h,
-        s,
-        excluded,
-        n,
-        r,
-        percentiles,
-        rasters.len(),
-        offsets.len(),
-        counts.len(),
-        grey.len(),
-        words.len(),
-    );
-    if number != 0 {
-        return Written::Refused(number);
-    }
-    // each pair's percentile takes the place of the setup's
     let setup = Setup {
         w,
         h,
@@ -59,9 +83,10 @@ pub fn series(
         percentile: 0,
         exclusion: Exclusion::Tolerance(tolerance),
     };
-    let order = WARD;
-    align_series(
+    let order = places(Order::Ward);
+    series_in_order(
         setup,
+        tolerance_refusal(tolerance),
         n,
         r,
         percentiles,
@@ -71,6 +96,5 @@ pub fn series(
         grey,
         words,
         &order,
-    );
-    Written::Done
+    )
 }

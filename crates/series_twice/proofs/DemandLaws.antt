@@ -1,5 +1,5 @@
 -- Demand 3 of what the call writes, from the call's contract and the theorem about the definitions.
-use mathlib.Core.Path.{_≡_, sym, ap, subst, _∙_}
+use mathlib.Core.Path.{_≡_, refl, sym, ap, subst, _∙_}
 use mathlib.Core.List.{List}
 use Prim.Native.Nat.{ℕ, _+_, _*_, _-_}
 use native.Mathlib.Nat.{mul-comm}
@@ -9,16 +9,17 @@ use lib.ListN.{length, take, drop, getD}
 use lib.Seq.{take-at}
 use Rattle.rules.specs.declared.Offset.{Offset}
 use Rattle.rules.specs.declared.Written.{Written}
+use Rattle.rules.specs.declared.Order.{Order}
 use Rattle.rules.specs.Answers.{written, bufferAfter}
 use Rattle.rules.specs.Accepted.{SeriesOk}
-use Rattle.rules.specs.Levels.{Arrangement, arranged, ruleOf, Aligned, pair}
+use Rattle.rules.specs.Levels.{orderOf, Arrangement, arranged, ruleOf, Aligned, pair}
 use Rattle.rules.specs.Series.{Settings, greyOf, pairOf, frameOffset, answerOf, answerBy, seriesAnswer}
 use Rattle.rules.specs.Calls.{exclusionRefusal, seriesNumber, SeriesCall}
 use Rattle.rules.proofs.OffsetLaws.{length-offsets}
 use Rattle.rules.proofs.AlignmentLaws.{series-ok}
 use Rattle.reexposure.specs.Reexposure.{Bytes, Sound, Bounded, Alike}
 use Rattle.reexposure.proofs.Theorem.{demand3}
-use Rattle.align.proofs.AlignLaws.{counts-length}
+use Rattle.rules.proofs.LevelLaws.{wardPlaces, leastMovePlaces, ward-arrangement, least-move-arrangement, counts-length}
 use Rattle.next_pair.proofs.RunLaws.{length-counts}
 use Rattle.series_twice.specs.Demand.{packedAnswer, Given, Demanded}
 
@@ -54,21 +55,31 @@ packed-is preferred S F number offsets offsets′ counts counts′ z a b =
     let q = written-part number (9 * (S .halvings + 1) * (S .frames - 1)) (seriesAnswer preferred S F .counts) counts counts′ z (counts-size preferred S F) b in
     λ i. record { offsets = p i; counts = q i }
 
+-- an order of the nine, by its places
+pub record Arranged (preferred : List Offset) : Type 0 where
+  pub places : List ℕ
+  pub fits : Arrangement places
+  pub is : arranged places ≡ preferred
+
+pub order-arranged : (order : Order) → Arranged (orderOf order)
+order-arranged Order.LeastMove = record { places = leastMovePlaces; fits = least-move-arrangement; is = refl }
+order-arranged Order.Ward = record { places = wardPlaces; fits = ward-arrangement; is = refl }
+
 -- Two calls: for F, and for F′.
-module _ (places : List ℕ) (arrangement : Arrangement places) (S : Settings) (F F′ : List ℕ) (offsets1 offsets2 out1 out2 : List ℤ) (counts1 counts2 made1 made2 : List ℕ)
+module _ (preferred : List Offset) (nine : Arranged preferred) (S : Settings) (F F′ : List ℕ) (offsets1 offsets2 out1 out2 : List ℤ) (counts1 counts2 made1 made2 : List ℕ)
     (grey1 grey1′ grey2 grey2′ words1 words1′ words2 words2′ : List ℕ) (answer1 answer2 : Written)
     (bytes : Bytes F) (bytes′ : Bytes F′)
-    (one : SeriesCall (arranged places) S F offsets1 out1 counts1 made1 grey1 grey1′ words1 words1′ answer1)
-    (two : SeriesCall (arranged places) S F′ offsets2 out2 counts2 made2 grey2 grey2′ words2 words2′ answer2)
+    (one : SeriesCall preferred S F offsets1 out1 counts1 made1 grey1 grey1′ words1 words1′ answer1)
+    (two : SeriesCall preferred S F′ offsets2 out2 counts2 made2 grey2 grey2′ words2 words2′ answer2)
     (g : Given S F F′ offsets1 offsets2 counts1 counts2 grey1 grey2 words1 words2) where
   zero2 : seriesNumber S F′ offsets2 counts2 grey2 words2 ≡ 0
   zero2 = rw (g .rasterBytes, g .offsetRoom, g .countRoom, g .greyMemory, g .wordMemory) (g .accepted)
 
-  packed1 : packedAnswer S out1 made1 ≡ seriesAnswer (arranged places) S F
-  packed1 = packed-is (arranged places) S F (seriesNumber S F offsets1 counts1 grey1 words1) offsets1 out1 counts1 made1 (g .accepted) (one .offsetsAre) (one .countsAre)
+  packed1 : packedAnswer S out1 made1 ≡ seriesAnswer preferred S F
+  packed1 = packed-is preferred S F (seriesNumber S F offsets1 counts1 grey1 words1) offsets1 out1 counts1 made1 (g .accepted) (one .offsetsAre) (one .countsAre)
 
-  packed2 : packedAnswer S out2 made2 ≡ seriesAnswer (arranged places) S F′
-  packed2 = packed-is (arranged places) S F′ (seriesNumber S F′ offsets2 counts2 grey2 words2) offsets2 out2 counts2 made2 zero2 (two .offsetsAre) (two .countsAre)
+  packed2 : packedAnswer S out2 made2 ≡ seriesAnswer preferred S F′
+  packed2 = packed-is preferred S F′ (seriesNumber S F′ offsets2 counts2 grey2 words2) offsets2 out2 counts2 made2 zero2 (two .offsetsAre) (two .countsAre)
 
   ok : SeriesOk (S .w) (S .h) (S .halvings) (S .frames) (S .reference) (S .percentiles) (length F) (length offsets1) (length counts1) (length grey1) (length words1)
   ok =
@@ -78,22 +89,24 @@ module _ (places : List ℕ) (arrangement : Arrangement places) (S : Settings) (
   sound : Sound S
   sound = record { reference = ok .reference; percentile = λ k l. ok .percentile k (omega arith) }
 
-  alike : Alike (arranged places) (ruleOf (S .exclusion)) S F F′
-  alike = demand3 places arrangement (ruleOf (S .exclusion)) (g .byOrder) S F F′ sound bytes bytes′ (g .alike)
+  alike : Alike preferred (ruleOf (S .exclusion)) S F F′
+  alike =
+      subst (λ (order : List Offset). Alike order (ruleOf (S .exclusion)) S F F′) (nine .is)
+      (demand3 (nine .places) (nine .fits) (ruleOf (S .exclusion)) (g .byOrder) S F F′ sound bytes bytes′ (g .alike))
 
-  same : seriesAnswer (arranged places) S F ≡ seriesAnswer (arranged places) S F′
+  same : seriesAnswer preferred S F ≡ seriesAnswer preferred S F′
   unfolding seriesAnswer
   same = alike .same
 
-  near : Bounded S (seriesAnswer (arranged places) S F)
+  near : Bounded S (seriesAnswer preferred S F)
   unfolding seriesAnswer
   near = alike .bound
 
-  near′ : Bounded S (seriesAnswer (arranged places) S F′)
+  near′ : Bounded S (seriesAnswer preferred S F′)
   unfolding seriesAnswer
   near′ = alike .bound′
 
-  pub demanded : Demanded (arranged places) S F′ answer2 (packedAnswer S out1 made1) (packedAnswer S out2 made2)
+  pub demanded : Demanded preferred S F′ answer2 (packedAnswer S out1 made1) (packedAnswer S out2 made2)
   demanded = record {
     accepted = two .answered ∙ ap written zero2;
     same = packed1 ∙ same ∙ sym packed2;

@@ -1,4 +1,4 @@
--- Demand 3 of document 00, about what the series call writes.
+-- Demand 3 of document 00, about what a series call writes.
 use mathlib.Core.Path.{_≡_}
 use mathlib.Core.List.{List}
 use Prim.Native.Nat.{ℕ, _+_, _*_, _-_}

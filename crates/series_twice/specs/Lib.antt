@@ -1,2 +1,2 @@
--- What demand 3 says of the series call.
+-- What demand 3 says of a series call.
 pub mod Demand

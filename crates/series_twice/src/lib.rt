@@ -1,8 +1,10 @@
-// Demand 3 as a contract: the series call, made for a series and for another one.
+// Demand 3 as a contract: a series call, made for a series and for another one.
 
+use rules::Order;
 use rules::Written;
 use series::series;
-ghost use Rattle.rules.specs.Levels.{wardOrder};
+use series::series_ward;
+ghost use Rattle.rules.specs.Levels.{orderOf};
 ghost use Rattle.rules.specs.Calls.{toleranceSettings, SeriesCall};
 ghost use Rattle.series_twice.specs.Demand.{packedAnswer, Given, Demanded};
 
@@ -12,10 +14,65 @@ pub struct Answers {
     pub second: Written,
 }
 
-// Aligns two series of the same sizes and settings, each in buffers of its own. No board needs it: its
-// contract is each call's own and, proved from both and from the theorem of `reexposure`, what demand 3
-// says of every two such calls.
+// The series call of an order.
+fn series_by(
+    order: Order,
+    w: usize,
+    h: usize,
+    s: u32,
+    tolerance: u32,
+    n: usize,
+    r: usize,
+    percentiles: &[u32],
+    rasters: &[u8],
+    offsets: &mut [i32],
+    counts: &mut [u32],
+    grey: &mut [u8],
+    words: &mut [u64],
+) -> Written
+    ensures { λ k. ⌜
+        SeriesCall (orderOf order) (toleranceSettings w h s tolerance n r (now (percentiles .entry))) (now (rasters .entry))
+        (now (offsets .entry)) (now (offsets .exit)) (now (counts .entry)) (now (counts .exit))
+        (now (grey .entry)) (now (grey .exit)) (now (words .entry)) (now (words .exit)) k
+        ⌝ }
+{
+    match order {
+        Order::LeastMove => series(
+            w,
+            h,
+            s,
+            tolerance,
+            n,
+            r,
+            percentiles,
+            rasters,
+            offsets,
+            counts,
+            grey,
+            words,
+        ),
+        Order::Ward => series_ward(
+            w,
+            h,
+            s,
+            tolerance,
+            n,
+            r,
+            percentiles,
+            rasters,
+            offsets,
+            counts,
+            grey,
+            words,
+        ),
+    }
+}
+
+// Aligns two series of the same sizes and settings by the same call, each in buffers of its own. No board
+// needs it: its contract is each call's own and, proved from both and from the theorem of `reexposure`,
+// what demand 3 says of every two such calls.
 pub fn align_twice(
+    order: Order,
     w: usize,
     h: usize,
     s: u32,
@@ -35,12 +92,12 @@ pub fn align_twice(
     words2: &mut [u64],
 ) -> Answers
     ensures first { λ k. ⌜
-        SeriesCall wardOrder (toleranceSettings w h s tolerance n r (now (percentiles .entry))) (now (rasters1 .entry))
+        SeriesCall (orderOf order) (toleranceSettings w h s tolerance n r (now (percentiles .entry))) (now (rasters1 .entry))
         (now (offsets1 .entry)) (now (offsets1 .exit)) (now (counts1 .entry)) (now (counts1 .exit))
         (now (grey1 .entry)) (now (grey1 .exit)) (now (words1 .entry)) (now (words1 .exit)) (k .first)
         ⌝ }
     ensures second { λ k. ⌜
-        SeriesCall wardOrder (toleranceSettings w h s tolerance n r (now (percentiles .entry))) (now (rasters2 .entry))
+        SeriesCall (orderOf order) (toleranceSettings w h s tolerance n r (now (percentiles .entry))) (now (rasters2 .entry))
         (now (offsets2 .entry)) (now (offsets2 .exit)) (now (counts2 .entry)) (now (counts2 .exit))
         (now (grey2 .entry)) (now (grey2 .exit)) (now (words2 .entry)) (now (words2 .exit)) (k .second)
         ⌝ }
@@ -48,12 +105,13 @@ pub fn align_twice(
         (Given (toleranceSettings w h s tolerance n r (now (percentiles .entry))) (now (rasters1 .entry)) (now (rasters2 .entry))
         (now (offsets1 .entry)) (now (offsets2 .entry)) (now (counts1 .entry)) (now (counts2 .entry))
         (now (grey1 .entry)) (now (grey2 .entry)) (now (words1 .entry)) (now (words2 .entry))
-        → Demanded wardOrder (toleranceSettings w h s tolerance n r (now (percentiles .entry))) (now (rasters2 .entry)) (k .second)
+        → Demanded (orderOf order) (toleranceSettings w h s tolerance n r (now (percentiles .entry))) (now (rasters2 .entry)) (k .second)
         (packedAnswer (toleranceSettings w h s tolerance n r (now (percentiles .entry))) (now (offsets1 .exit)) (now (counts1 .exit)))
         (packedAnswer (toleranceSettings w h s tolerance n r (now (percentiles .entry))) (now (offsets2 .exit)) (now (counts2 .exit))))
         ⌝ }
 {
-    let first = series(
+    let first = series_by(
+        order,
         w,
         h,
         s,
@@ -67,7 +125,8 @@ pub fn align_twice(
         grey1,
         words1,
     );
-    let second = series(
+    let second = series_by(
+        order,
         w,
         h,
         s,

@@ -1,4 +1,4 @@
-// Test vectors of `pair`: of stored and of made frames.
+// Test vectors of `pair` and `pair_ward`: of stored and of made frames.
 
 use rules::Paired;
 use vectors::answers::DIFFERS;
@@ -9,6 +9,7 @@ use vectors::buffers::lend_counts;
 use vectors::buffers::lend_words;
 use vectors::contents::counts_are;
 use vectors::contents::memory_kept;
+use vectors_data::data::CALL;
 use vectors_data::data::GREY;
 use vectors_data::data::HALVINGS;
 use vectors_data::data::HEIGHT;
@@ -33,13 +34,16 @@ use vectors_data::tally;
 use vectors_scene::make_frames;
 
 // The file, and after it the made bytes of the largest frames.
-const DATA_MEMORY: usize = 3500000;
+const DATA_MEMORY: usize = 3800000;
 
 const GREY_MEMORY: usize = 2830000;
 
 const WORD_MEMORY: usize = 105000;
 
 const MOST_COUNTS: usize = 128;
+
+// The first number of a call in Ward's order.
+const WARD: u32 = 18;
 
 // Sizes and settings of a record.
 struct Setup {
@@ -81,6 +85,20 @@ fn pair_of(
     let set = setup_of(data, at);
     let first = input(data, at, INPUT1);
     let second = input(data, at, INPUT2);
+    if WARD <= field(data, at, CALL) {
+        return pair::pair_ward(
+            set.w,
+            set.h,
+            set.s,
+            set.tolerance,
+            set.percentile,
+            first,
+            second,
+            counts,
+            grey,
+            words,
+        );
+    }
     pair::pair(
         set.w,
         set.h,

@@ -1,4 +1,4 @@
-// Test vectors of `series`: of stored and of made frames.
+// Test vectors of `series` and `series_ward`: of stored and of made frames.
 
 use rules::Written;
 use vectors::answers::DIFFERS;
@@ -13,6 +13,7 @@ use vectors::buffers::lend_words;
 use vectors::contents::counts_are;
 use vectors::contents::memory_kept;
 use vectors::contents::offsets_are;
+use vectors_data::data::CALL;
 use vectors_data::data::FRAMES;
 use vectors_data::data::GREY;
 use vectors_data::data::HALVINGS;
@@ -36,7 +37,7 @@ use vectors_data::tally;
 use vectors_scene::make_frames;
 
 // The file, and after it the made bytes of the largest frames.
-const DATA_MEMORY: usize = 2700000;
+const DATA_MEMORY: usize = 3000000;
 
 const GREY_MEMORY: usize = 710000;
 
@@ -47,6 +48,9 @@ const MOST_COUNTS: usize = 2048;
 const MOST_OFFSETS: usize = 64;
 
 const MOST_PERCENTILES: usize = 32;
+
+// The first number of a call in Ward's order.
+const WARD: u32 = 18;
 
 // Sizes and settings of a record.
 struct Setup {
@@ -80,6 +84,22 @@ fn series_of(
 ) -> Written {
     let set = setup_of(data, at);
     let rasters = input(data, at, INPUT2);
+    if WARD <= field(data, at, CALL) {
+        return series::series_ward(
+            set.w,
+            set.h,
+            set.s,
+            set.tolerance,
+            set.n,
+            set.r,
+            percentiles,
+            rasters,
+            offsets,
+            counts,
+            grey,
+            words,
+        );
+    }
     series::series(
         set.w,
         set.h,

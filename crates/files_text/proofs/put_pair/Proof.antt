@@ -11,15 +11,15 @@ use Rattle.files_text.proofs.FilesTextLaws.{not-zero, number, result, h
 use Rattle.files_text.proofs.put_pair.Statement.{statement}
 use Rattle.files_text.proofs.put_pair.Tie as tie
 
-abbrev start : tie.After-pair → tie.Start
+abbrev start : tie.After-pair-ward → tie.Start
 start c = c .before .before .before .before .before .before
 
 -- the lengths of the lent arrays
-grey-length : (c : tie.After-pair) → length (start c .args .grey .now) ≡ 65536
-grey-length c = c .before .before .pair-arg .given .0 .1
+grey-length : (c : tie.After-pair-ward) → length (start c .args .grey .now) ≡ 65536
+grey-length c = c .before .before .pair-ward-arg .given .0 .1
 
-words-length : (c : tie.After-pair) → length (start c .args .words .now) ≡ 8192
-words-length c = c .before .pair-arg2 .given .0 .1
+words-length : (c : tie.After-pair-ward) → length (start c .args .words .now) ≡ 8192
+words-length c = c .before .pair-ward-arg2 .given .0 .1
 
 -- the answer as its definition has it
 abbrev expected : tie.Start → Paired
@@ -28,25 +28,25 @@ expected s =
     paired (number (a .size) (a .s) (a .tolerance) (a .percentile) (a .first .now) (a .second .now))
     (result (a .size) (a .s) (a .tolerance) (a .percentile) (a .first .now) (a .second .now) .offset)
 
-answered : (c : tie.After-pair) → expected (start c) ≡ c .pair .result
-answered c = sym (rw (grey-length c, words-length c) at (c .pair .ensures .answered))
+answered : (c : tie.After-pair-ward) → expected (start c) ≡ c .pair-ward .result
+answered c = sym (rw (grey-length c, words-length c) at (c .pair-ward .ensures .answered))
 
 -- the answer of an accepted pair
 moved : (c : tie.After-answer2) → expected (start (c .before .before .before)) ≡ Paired.Moved (c .answer2 .given .0 .0)
 moved c = answered (c .before .before .before) ∙ c .answer2 .given .1
 
 -- a refused pair leaves its work memory
-memory : (c : tie.After-pair)
+memory : (c : tie.After-pair-ward)
     → let a = start c .args in
     pairAligns (a .size) (a .s) (a .tolerance) (a .percentile) (a .first .now) (a .second .now) ≡ false
-    → (c .pair .last .1 .1 .1 .1 .1 .1 .1 .1 .0 ≡ a .grey .now) × (c .pair .last .1 .1 .1 .1 .1 .1 .1 .1 .1 .0 ≡ a .words .now)
-memory c e = rw (grey-length c, words-length c) at (c .pair .ensures .memoryKept) (not-zero _ e)
+    → (c .pair-ward .last .1 .1 .1 .1 .1 .1 .1 .1 .0 ≡ a .grey .now) × (c .pair-ward .last .1 .1 .1 .1 .1 .1 .1 .1 .1 .0 ≡ a .words .now)
+memory c e = rw (grey-length c, words-length c) at (c .pair-ward .ensures .memoryKept) (not-zero _ e)
 
-slice-aggregate-pair : tie.Need-slice-aggregate-pair
-slice-aggregate-pair c = search needs
+slice-aggregate-pair-ward : tie.Need-slice-aggregate-pair-ward
+slice-aggregate-pair-ward c = search needs
 
-pair-requires : tie.Need-pair-requires
-pair-requires c κs = search needs
+pair-ward-requires : tie.Need-pair-ward-requires
+pair-ward-requires c κs = search needs
 
 enum-known-answer : tie.Need-enum-known-answer
 enum-known-answer c = search needs
@@ -83,7 +83,7 @@ returns-2 c =
     let b = c .before .before .before .before in
     let p = b .before .before .before in
     let a = start p .args in
-    let d = rw (grey-length p, words-length p) at (p .pair .ensures .countsAre) in
+    let d = rw (grey-length p, words-length p) at (p .pair-ward .ensures .countsAre) in
     record {
       wrote =
           rw (pair-moved-text (a .size) (a .s) (a .tolerance) (a .percentile) (a .first .now) (a .second .now) _ (moved b) _ _ d)
@@ -95,8 +95,8 @@ pub put-pair-spec : {M : Type 1} → statement M
 put-pair-spec =
     tie.close
     (tie.spec
-    slice-aggregate-pair
-    pair-requires
+    slice-aggregate-pair-ward
+    pair-ward-requires
     enum-known-answer
     put-refused-requires
     enum-known-answer-2

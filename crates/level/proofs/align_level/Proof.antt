@@ -42,25 +42,6 @@ first-least-requires c κs =
     let p = begun (c .before .before .before .before .before .before) .pre in
     (rw (c .before .before .before .before .before .nine-counts .ensures .len) (p .1 .1 .1 .1 .1 .0), p .1 .1 .1 .1 .1 .1 .0)
 
-mul-place : tie.Need-mul-place
-mul-place c = search needs
-
-element-copy-out-place : tie.Need-element-copy-out-place
-element-copy-out-place c = search needs
-
-candidate-requires : tie.Need-candidate-requires
-candidate-requires c κs =
-    let p = begun (c .before .before .before .before .before .before .before .before) .pre in
-    let best = c .before .first-least in
-    let place = p .1 .1 .1 .1 .1 .1 .0 .inside (best .result) (best .ensures .inside) in
-    (omega arith, p .1 .1 .1 .1 .0)
-
-same-length : tie.Need-same-length
-same-length c = search needs
-
-same-length-2 : tie.Need-same-length-2
-same-length-2 c = search needs
-
 returns : tie.Need-returns
 returns c =
     let s = begun (c .before .before .before .before .before .before .before .before .before) in
@@ -79,6 +60,25 @@ returns c =
     (a .centre) (a .order .now) (a .at) (a .counts .now) (nine .last .1 .1 .1 .1 .0) (best .result) (c .candidate .result) (s .pre .1 .1 .1 .1 .1 .1 .0)
     (words-count (a .setup) f g (a .words .now) mid words (2 * size .result) place (one .ensures) (two .ensures))
     (nine .ensures) (best .ensures) (c .candidate .ensures)
+
+mul-place : tie.Need-mul-place
+mul-place c = search needs
+
+element-copy-out-place : tie.Need-element-copy-out-place
+element-copy-out-place c = search needs
+
+candidate-requires : tie.Need-candidate-requires
+candidate-requires c κs =
+    let p = begun (c .before .before .before .before .before .before .before .before) .pre in
+    let best = c .before .first-least in
+    let place = p .1 .1 .1 .1 .1 .1 .0 .inside (best .result) (best .ensures .inside) in
+    (omega arith, p .1 .1 .1 .1 .0)
+
+same-length : tie.Need-same-length
+same-length c = search needs
+
+same-length-2 : tie.Need-same-length-2
+same-length-2 c = search needs
 
 pub align-level-spec : {M : Type 1} → statement M
 align-level-spec =

@@ -44,6 +44,16 @@ count-slid-requires c κs =
     let near = candidate-near (a .centre) (3 * a .i + j) (omega arith) (p .1 .1 .0) in
     (p .0, (p .1 .0, (rw (c .candidate .ensures) near, (rw same (p .1 .1 .1 .1 .0), p .1 .1 .1 .1 .1 .1))))
 
+loop-again : tie.Need-loop-again Inv-loop μ-loop
+loop-again c =
+    let a = c .before .before .before .before .before .before .args in
+    let l = c .before .before .before .loop in
+    let m = c .before .candidate in (
+      search needs,
+      row-more (a .at) (columnOf (wordsCount (a .w) (a .h) (a .words .now)) (a .centre) (a .i)) (a .counts .now) (l .j) (l .counts) (c .count-slid .result) (omega arith) (l .inv .1)
+          (c .count-slid .ensures ∙ ap (wordsCount (a .w) (a .h) (a .words .now)) (m .ensures)),
+    )
+
 add-counts : tie.Need-add-counts Inv-loop μ-loop
 add-counts c = search needs
 
@@ -58,16 +68,6 @@ add-j c = search needs
 
 loop-less : tie.Need-loop-less Inv-loop μ-loop
 loop-less c = search needs
-
-loop-again : tie.Need-loop-again Inv-loop μ-loop
-loop-again c =
-    let a = c .before .before .before .before .before .before .args in
-    let l = c .before .before .before .loop in
-    let m = c .before .candidate in (
-      search needs,
-      row-more (a .at) (columnOf (wordsCount (a .w) (a .h) (a .words .now)) (a .centre) (a .i)) (a .counts .now) (l .j) (l .counts) (c .count-slid .result) (omega arith) (l .inv .1)
-          (c .count-slid .ensures ∙ ap (wordsCount (a .w) (a .h) (a .words .now)) (m .ensures)),
-    )
 
 same-length : tie.Need-same-length Inv-loop μ-loop
 same-length c = search needs

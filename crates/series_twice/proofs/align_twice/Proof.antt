@@ -2,16 +2,16 @@
 use native.Mathlib.Omega.{arith}
 use borrow.Author.Needs.{needs}
 use Rattle.rules.specs.Calls.{toleranceSettings}
-use Rattle.candidates.proofs.WardLaws.{ward-arrangement}
-use Rattle.series_twice.proofs.DemandLaws.{demanded}
+use Rattle.rules.specs.Levels.{orderOf}
+use Rattle.series_twice.proofs.DemandLaws.{order-arranged, demanded}
 use Rattle.series_twice.proofs.align_twice.Statement.{statement}
 use Rattle.series_twice.proofs.align_twice.Tie as tie
 
-series-requires : tie.Need-series-requires
-series-requires c κs = search needs
+series-by-requires : tie.Need-series-by-requires
+series-by-requires c κs = search needs
 
-series-requires-2 : tie.Need-series-requires-2
-series-requires-2 c κs = search needs
+series-by-requires-2 : tie.Need-series-by-requires-2
+series-by-requires-2 c κs = search needs
 
 same-length : tie.Need-same-length
 same-length c = search needs
@@ -38,13 +38,13 @@ same-length-8 : tie.Need-same-length-8
 same-length-8 c = search needs
 
 -- places on the way: after each call, where the rasters are known, and at the start
-abbrev twice : tie.After-slice-known12 → tie.After-series2
+abbrev twice : tie.After-slice-known12 → tie.After-series-by2
 twice c = c .before .before .before .before .before .before .before
 
-abbrev once : tie.After-series2 → tie.After-series
+abbrev once : tie.After-series-by2 → tie.After-series-by
 once c = c .before .before .before .before .before .before .before .before .before .before .before .before
 
-abbrev rasters : tie.After-series → tie.After-shared-slice-known3
+abbrev rasters : tie.After-series-by → tie.After-shared-slice-known3
 rasters c = c .before .before .before .before .before .before .before .before .before .before .before
 
 abbrev begun : tie.After-shared-slice-known3 → tie.Start
@@ -52,18 +52,18 @@ begun c = c .before .before .before
 
 returns : tie.Need-returns
 returns c =
-    let two = twice c .series2 in
-    let one = once (twice c) .series in
+    let two = twice c .series-by2 in
+    let one = once (twice c) .series-by in
     let known = rasters (once (twice c)) in
     let a = begun known .args in (
       one .ensures,
       (
         two .ensures,
-        demanded _ ward-arrangement (toleranceSettings (a .w) (a .h) (a .s) (a .tolerance) (a .n) (a .r) (a .percentiles .now)) (a .rasters1 .now) (a .rasters2 .now)
-            (a .offsets1 .now) (a .offsets2 .now) (one .last .1 .1 .1 .1 .1 .1 .1 .1 .0) (two .last .1 .1 .1 .1 .1 .1 .1 .1 .0) (a .counts1 .now) (a .counts2 .now)
-            (one .last .1 .1 .1 .1 .1 .1 .1 .1 .1 .0) (two .last .1 .1 .1 .1 .1 .1 .1 .1 .1 .0)
-            (a .grey1 .now) (one .last .1 .1 .1 .1 .1 .1 .1 .1 .1 .1 .0) (a .grey2 .now) (two .last .1 .1 .1 .1 .1 .1 .1 .1 .1 .1 .0)
-            (a .words1 .now) (one .last .1 .1 .1 .1 .1 .1 .1 .1 .1 .1 .1 .0) (a .words2 .now) (two .last .1 .1 .1 .1 .1 .1 .1 .1 .1 .1 .1 .0)
+        demanded (orderOf (a .order)) (order-arranged (a .order)) (toleranceSettings (a .w) (a .h) (a .s) (a .tolerance) (a .n) (a .r) (a .percentiles .now)) (a .rasters1 .now) (a .rasters2 .now)
+            (a .offsets1 .now) (a .offsets2 .now) (one .last .1 .1 .1 .1 .1 .1 .1 .1 .1 .0) (two .last .1 .1 .1 .1 .1 .1 .1 .1 .1 .0) (a .counts1 .now) (a .counts2 .now)
+            (one .last .1 .1 .1 .1 .1 .1 .1 .1 .1 .1 .0) (two .last .1 .1 .1 .1 .1 .1 .1 .1 .1 .1 .0)
+            (a .grey1 .now) (one .last .1 .1 .1 .1 .1 .1 .1 .1 .1 .1 .1 .0) (a .grey2 .now) (two .last .1 .1 .1 .1 .1 .1 .1 .1 .1 .1 .1 .0)
+            (a .words1 .now) (one .last .1 .1 .1 .1 .1 .1 .1 .1 .1 .1 .1 .1 .0) (a .words2 .now) (two .last .1 .1 .1 .1 .1 .1 .1 .1 .1 .1 .1 .1 .0)
             (one .result) (two .result)
             (λ i. let l = known .before .shared-slice-known2 .given i in omega arith)
             (λ i. let l = known .shared-slice-known3 .given i in omega arith)
@@ -75,8 +75,8 @@ pub align-twice-spec : {M : Type 1} → statement M
 align-twice-spec =
     tie.close
     (tie.spec
-    series-requires
-    series-requires-2
+    series-by-requires
+    series-by-requires-2
     same-length
     same-length-2
     same-length-3

@@ -16,7 +16,7 @@ use Rattle.rules.proofs.PairLaws.{pair-ext}
 use Rattle.rules.proofs.RefusalLaws.{buffer-refused}
 use Rattle.rules.proofs.AlignmentLaws.{paired-refused}
 use Rattle.align.specs.Aligns.{Frames, Aligns, alignedIn}
-use Rattle.align.proofs.AlignLaws.{counts-length}
+use Rattle.rules.proofs.LevelLaws.{counts-length}
 use Rattle.align.proofs.WrittenLaws.{row-written}
 
 -- the recursion's answer is that of the rasters

@@ -4,10 +4,10 @@ use native.Mathlib.Omega.{arith}
 use lib.ListN.{length}
 use Rattle.rules.specs.Levels.{arranged}
 use Rattle.next_pair.proofs.RunLaws.{pairs-small}
-use Rattle.series.proofs.SeriesAnswerLaws.{pairs-ok, answer-offsets, answer-counts}
+use Rattle.series_in_order.proofs.SeriesAnswerLaws.{pairs-ok, answer-offsets, answer-counts}
 use borrow.Author.Needs.{needs}
-use Rattle.series.proofs.aligning.align_series.Statement.{statement}
-use Rattle.series.proofs.aligning.align_series.Tie as tie
+use Rattle.series_in_order.proofs.aligning.align_series.Statement.{statement}
+use Rattle.series_in_order.proofs.aligning.align_series.Tie as tie
 
 -- the answer
 returns : tie.Need-returns

@@ -9,7 +9,7 @@ ghost use Rattle.rules.specs.Frames.{writtenOver};
 ghost use Rattle.rules.specs.Accepted.{SeriesOk};
 ghost use Rattle.rules.specs.Levels.{Arrangement, arranged};
 ghost use Rattle.rules.specs.Series.{seriesAnswer};
-ghost use Rattle.series.specs.Settings.{settingsOf};
+ghost use Rattle.series_in_order.specs.Settings.{settingsOf};
 
 // Two numbers for each pair of the longest series.
 const PAIR_NUMBERS: usize = 30;

@@ -8,10 +8,10 @@ use Rattle.rules.specs.Levels.{arranged}
 use Rattle.rules.proofs.AlignmentLaws.{level-pixels-at}
 use Rattle.popcount.proofs.TableLaws.{counts-bits}
 use Rattle.align.proofs.WrittenLaws.{converted, converted-kept}
-use Rattle.pair.proofs.PairCallLaws.{pair-offset, pair-counts, pair-frames}
+use Rattle.pair_in_order.proofs.PairCallLaws.{pair-offset, pair-counts, pair-frames}
 use borrow.Author.Needs.{needs}
-use Rattle.pair.proofs.rasters.align_rasters.Statement.{statement}
-use Rattle.pair.proofs.rasters.align_rasters.Tie as tie
+use Rattle.pair_in_order.proofs.rasters.align_rasters.Statement.{statement}
+use Rattle.pair_in_order.proofs.rasters.align_rasters.Tie as tie
 
 mul-area : tie.Need-mul-area
 mul-area c = search needs

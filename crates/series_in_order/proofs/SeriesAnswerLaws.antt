@@ -17,7 +17,7 @@ use Rattle.rules.proofs.SeriesLaws.{frame-list-ext}
 use Rattle.offsets.specs.PairOffsets.{pairOffset}
 use Rattle.offsets.proofs.PairOffsetLaws.{written-pair}
 use Rattle.next_pair.specs.PairRuns.{pairsOf, PairsOk, AllRan}
-use Rattle.series.specs.Settings.{settingsOf}
+use Rattle.series_in_order.specs.Settings.{settingsOf}
 
 -- an accepted series gives its pairs what they need
 pub pairs-ok : (S : Setup) (n r : ℕ) (ps : List ℕ) (rasters offsets pairs counts grey words : ℕ) → 30 ≤ pairs

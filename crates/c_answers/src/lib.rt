@@ -1,0 +1,33 @@
+// Answers as C gets them: a number, and an offset behind two pointers.
+
+use rules::Paired;
+use rules::Written;
+ghost use mathlib.Core.Path.{_≡_};
+ghost use Rattle.c_answers.specs.Values.{refusalIn, pairRefusalIn, offset, offsetAfter};
+
+// The refusal number of an answer, 0 when the call was accepted.
+pub fn refusal_in(answer: Written) -> u32
+    ensures { λ r. ⌜ r ≡ refusalIn answer ⌝ }
+{
+    match answer {
+        Written::Done => 0,
+        Written::Refused(n) => n,
+    }
+}
+
+// The same of a pair's answer. Its offset goes behind the pointers, which a refusal leaves as they were.
+pub fn moved_into(answer: Paired, dx: &mut i32, dy: &mut i32) -> u32
+    ensures offset { λ _. ⌜ offset (now (dx .exit)) (now (dy .exit)) ≡ offsetAfter answer (offset (now (dx .entry)) (now (dy .entry))) ⌝ }
+    ensures number { λ r. ⌜ r ≡ pairRefusalIn answer ⌝ }
+{
+    match answer {
+        Paired::Moved(m) => {
+            let x = m.dx;
+            let y = m.dy;
+            *dx = x;
+            *dy = y;
+            0
+        }
+        Paired::Refused(n) => n,
+    }
+}
