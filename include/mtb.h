@@ -45,8 +45,8 @@
  *
  * STACK
  *   Bytes, with stacked arguments and return address:
- *     mtb_pair, mtb_pair_ward        5752 + 368*s, so 8696 at most     mtb_threshold    4160
- *     mtb_series, mtb_series_ward    5960 + 368*s, so 8904 at most     mtb_difference   1008
+ *     mtb_pair, mtb_pair_ward        5896 + 368*s, so 8840 at most     mtb_threshold    4160
+ *     mtb_series, mtb_series_ward    6152 + 368*s, so 9096 at most     mtb_difference   1008
  *     every other function: below 400
  *   Measured, not proved (tests/outside/run stack): each call was run on a painted stack, and the deepest changed
  *   byte was looked for, over frames from 1 by 1 to 4096 by 4096 with every s that they allow and

@@ -1,14 +1,14 @@
 -- Laws of the runs: the places of the greys, the offsets of the pairs, the places of the counts.
 use mathlib.Core.Path.{_≡_, refl, sym, ap, subst, _∙_}
 use mathlib.Core.Logic.{_⊎_, inl, inr, ⊎-elim}
-use mathlib.Core.List.{List, _++_}
-use Prim.Native.Nat.{ℕ, zero, suc, _+_, _*_, _-_, _%_, _^_, _≤_, _<_}
+use mathlib.Core.List.{List}
+use Prim.Native.Nat.{ℕ, suc, _+_, _*_, _-_, _%_, _^_, _≤_, _<_}
 use native.Mathlib.Nat.{zero-add, zero-mul, one-mul, suc-mul, mul-comm, mul-le-mul-right}
 use native.Mathlib.Numerals.{add-one}
 use native.Mathlib.Omega.{arith}
 use lib.IntN.{ℤ}
-use lib.ListN.{length, getD, take, drop, length-append, length-drop, List·getD-append}
-use lib.Seq.{getD-append-add, getD-drop}
+use lib.ListN.{length, getD, take, drop, length-drop}
+use lib.Seq.{getD-drop}
 use lib.Pow.{pow-mono}
 use borrow.Rule.Slice.PartAt.{part-to-end}
 use borrow.Author.Tests.{eq-eqb, ne-eqb}
@@ -27,9 +27,10 @@ use Rattle.rules.proofs.FrameLaws.{row-none, pixel-fits, row-join}
 use Rattle.rules.proofs.PairLaws.{pair-ext}
 use Rattle.rules.proofs.OffsetLaws.{near-pair, near-arranged, near-more}
 use Rattle.rules.proofs.AlignmentLaws.{level-pixels-at}
+use Rattle.rules.proofs.LevelLaws.{counts-length}
+use Rattle.rules.proofs.SeriesLaws.{length-counts, count-at}
 use Rattle.grey.specs.GreyPlaces.{greyAt}
 use Rattle.align.specs.Aligns.{Frames, Aligns, alignedIn}
-use Rattle.rules.proofs.LevelLaws.{counts-length}
 use Rattle.align.proofs.WrittenLaws.{converted, row-written}
 use Rattle.offsets.specs.PairOffsets.{withOffset, SmallPairs}
 use Rattle.offsets.proofs.PairOffsetLaws.{put-next, written-length, written-pair}
@@ -71,35 +72,6 @@ frame-kept from w h before after kept x y k l =
 pub row-apart : (from to n m : ℕ) (f : ℕ → ℕ) (before after : List ℕ) → (from + n ≤ to) ⊎ (to + m ≤ from) → RowAt to f before m after
     → (i : ℕ) → from ≤ i → i < from + n → getD after i 0 ≡ getD before i 0
 row-apart from to n m f before after apart r i a b = ⊎-elim (λ (l : from + n ≤ to). r .under i (omega arith)) (λ (l : to + m ≤ from). r .over i (omega arith)) apart
-
--- Counts, pair after pair.
-module _ (each : ℕ) (pairs : ℕ → Aligned) (sizes : (j : ℕ) → length (pairs j .counts) ≡ each) where
-  pub length-counts : (n : ℕ) → length (countList n pairs) ≡ n * each
-  unfolding countList
-  length-counts zero = sym (zero-mul each)
-  length-counts (suc n) =
-      length-append (countList n pairs) (pairs n .counts)
-      ∙ (let a = length-counts n in let b = sizes n in let c = suc-mul n each in omega arith)
-
-  pub count-at : (n k i : ℕ) → k < n → i < each → getD (countList n pairs) (k * each + i) 0 ≡ getD (pairs k .counts) i 0
-  unfolding countList
-  count-at zero k i l m = absurd (omega arith)
-  count-at (suc n) k i l m = ⊎-elim (λ (o : k < n). old o (count-at n k i o m)) new (order k n)
-    where
-      old : k < n → getD (countList n pairs) (k * each + i) 0 ≡ getD (pairs k .counts) i 0
-          → getD (countList n pairs ++ pairs n .counts) (k * each + i) 0 ≡ getD (pairs k .counts) i 0
-      old o e =
-          List·getD-append (countList n pairs) (pairs n .counts) 0 (k * each + i)
-          (let a = length-counts n in let b = mul-le-mul-right {m = suc k} {n = n} each o in let c = suc-mul k each in omega arith)
-          ∙ e
-
-      new : n ≤ k → getD (countList n pairs ++ pairs n .counts) (k * each + i) 0 ≡ getD (pairs k .counts) i 0
-      new o =
-          let d : k ≡ n = omega arith in
-          let e : k * each + i ≡ length (countList n pairs) + i = let a = length-counts n in let b = ap (λ (j : ℕ). j * each) d in omega arith in
-          ap (λ (j : ℕ). getD (countList n pairs ++ pairs n .counts) j 0) e
-          ∙ getD-append-add (countList n pairs) (pairs n .counts) i 0
-          ∙ ap (λ (j : ℕ). getD (pairs j .counts) i 0) (sym d)
 
 -- A pair's answer has as many counts as its levels have candidates.
 pub pair-sizes : (preferred : List Offset) (S : Setup) (percentiles rasters : List ℕ) (j : ℕ) → length (pairsOf preferred S percentiles rasters j .counts) ≡ 9 * (S .s + 1)

@@ -3,4 +3,5 @@ pub mod Links
 pub mod SamePairs
 pub mod Theorem
 pub mod Tolerance1Laws
+pub mod BlankSeriesLaws
 pub mod FlatSeriesLaws

@@ -106,5 +106,5 @@ flat-pair places fits tolerance percentile v some most byte s w h =
     let zeroed = flat-counts (arranged places) tolerance percentile v some most byte s w h in
     let n : ℕ = 9 * (s + 1) in
     let moved = equal-counts places fits (byTolerance tolerance) percentile s w h (flat v) (flat v)
-    (subst (Equal s) (sym zeroed) (λ k j l m. zero-at n (9 * k + j) ∙ sym (zero-at n (9 * k)))) in
+    (subst (Equal (s + 1)) (sym zeroed) (λ k j l m. zero-at n (9 * k + j) ∙ sym (zero-at n (9 * k)))) in
     λ i. record { offset = moved i; counts = zeroed i }

@@ -2,10 +2,12 @@
 use mathlib.Core.Path.{_≡_, refl, sym, ap, ap₂, _∙_}
 use mathlib.Core.Logic.{⊎-elim}
 use mathlib.Core.List.{List, [], _∷_, _++_}
-use Prim.Native.Nat.{ℕ, zero, suc, _+_, _-_, _≤_, _<_, min, max}
-use native.Mathlib.Nat.{add-zero}
+use Prim.Native.Nat.{ℕ, zero, suc, _+_, _*_, _-_, _≤_, _<_, min, max}
+use native.Mathlib.Nat.{add-zero, zero-mul, suc-mul, mul-le-mul-right}
 use native.Mathlib.Omega.{arith}
 use lib.IntN.{ℤ, pos, negℤ, _+ℤ_, +ℤ-idl, +ℤ-idr, +ℤ-assoc, +ℤ-comm, +ℤ-invl, negℤ-+ℤ}
+use lib.ListN.{length, getD, length-append, List·getD-append}
+use lib.Seq.{getD-append-add}
 use borrow.Author.Tests.{le-leb, lt-leb}
 use Rattle.rules.specs.declared.Offset.{Offset}
 use Rattle.rules.specs.Levels.{still, added, Aligned}
@@ -120,3 +122,32 @@ unfolding countList
 count-list-ext zero f g same = refl
 count-list-ext (suc n) f g same =
     ap₂ (λ (l : List ℕ) (a : Aligned). l ++ a .counts) (count-list-ext n f g (λ k l. same k (omega arith))) (same n (omega arith))
+
+-- Counts, pair after pair.
+module _ (each : ℕ) (pairs : ℕ → Aligned) (sizes : (j : ℕ) → length (pairs j .counts) ≡ each) where
+  pub length-counts : (n : ℕ) → length (countList n pairs) ≡ n * each
+  unfolding countList
+  length-counts zero = sym (zero-mul each)
+  length-counts (suc n) =
+      length-append (countList n pairs) (pairs n .counts)
+      ∙ (let a = length-counts n in let b = sizes n in let c = suc-mul n each in omega arith)
+
+  pub count-at : (n k i : ℕ) → k < n → i < each → getD (countList n pairs) (k * each + i) 0 ≡ getD (pairs k .counts) i 0
+  unfolding countList
+  count-at zero k i l m = absurd (omega arith)
+  count-at (suc n) k i l m = ⊎-elim (λ (o : k < n). old o (count-at n k i o m)) new (order k n)
+    where
+      old : k < n → getD (countList n pairs) (k * each + i) 0 ≡ getD (pairs k .counts) i 0
+          → getD (countList n pairs ++ pairs n .counts) (k * each + i) 0 ≡ getD (pairs k .counts) i 0
+      old o e =
+          List·getD-append (countList n pairs) (pairs n .counts) 0 (k * each + i)
+          (let a = length-counts n in let b = mul-le-mul-right {m = suc k} {n = n} each o in let c = suc-mul k each in omega arith)
+          ∙ e
+
+      new : n ≤ k → getD (countList n pairs ++ pairs n .counts) (k * each + i) 0 ≡ getD (pairs k .counts) i 0
+      new o =
+          let d : k ≡ n = omega arith in
+          let e : k * each + i ≡ length (countList n pairs) + i = let a = length-counts n in let b = ap (λ (j : ℕ). j * each) d in omega arith in
+          ap (λ (j : ℕ). getD (countList n pairs ++ pairs n .counts) j 0) e
+          ∙ getD-append-add (countList n pairs) (pairs n .counts) i 0
+          ∙ ap (λ (j : ℕ). getD (pairs j .counts) i 0) (sym d)

@@ -69,7 +69,7 @@ module _ (places : List ℕ) (fits : Arrangement places) where
       ∙ map-at count (map (added centre) wardOrder) still 0 j l
 
   nine-equal : (count : Offset → ℕ) (centre : Offset) (coarser : List ℕ) (s : ℕ) → length coarser ≡ 9 * s
-      → Equal s (coarser ++ map count (map (added centre) wardOrder))
+      → Equal (s + 1) (coarser ++ map count (map (added centre) wardOrder))
       → (j : ℕ) → j < 9 → count (candidateAt centre j) ≡ count (candidateAt centre 0)
   nine-equal count centre coarser s size equal j l =
       let nine : List ℕ = map count (map (added centre) wardOrder) in
@@ -79,11 +79,11 @@ module _ (places : List ℕ) (fits : Arrangement places) where
 
   -- ---- all levels
 
-  coarser-equal : (coarser nine : List ℕ) (s : ℕ) → length coarser ≡ 9 * (s + 1) → Equal (suc s) (coarser ++ nine) → Equal s coarser
-  coarser-equal coarser nine s size equal k j l m =
+  coarser-equal : (coarser nine : List ℕ) (n : ℕ) → length coarser ≡ 9 * n → Equal (suc n) (coarser ++ nine) → Equal n coarser
+  coarser-equal coarser nine n size equal k j l m =
       sym (List·getD-append coarser nine 0 (9 * k + j) (omega arith)) ∙ equal k j (omega arith) m ∙ List·getD-append coarser nine 0 (9 * k) (omega arith)
 
-  pub equal-counts : (rule : ExclusionRule) (percentile s w h : ℕ) (a b : Frame) → Equal s (pair (arranged places) rule percentile s w h a b .counts)
+  pub equal-counts : (rule : ExclusionRule) (percentile s w h : ℕ) (a b : Frame) → Equal (s + 1) (pair (arranged places) rule percentile s w h a b .counts)
       → pair (arranged places) rule percentile s w h a b .offset ≡ timesStep (2 ^ suc s - 1) firstStep
   unfolding pair level
   equal-counts rule percentile zero w h a b equal =
@@ -96,9 +96,10 @@ module _ (places : List ℕ) (fits : Arrangement places) where
       let coarse = pair (arranged places) rule percentile s (w / 2) (h / 2) (halved a) (halved b) in
       let count : Offset → ℕ = countAt rule percentile w h a b in
       let centre : Offset = added (coarse .offset) (coarse .offset) in
+      let more : suc s + 1 ≡ suc (s + 1) = omega arith in
       let size : length (coarse .counts) ≡ 9 * (s + 1) = counts-length (arranged places) rule percentile s (w / 2) (h / 2) (halved a) (halved b) in
       let below : coarse .offset ≡ timesStep (2 ^ suc s - 1) firstStep =
-      equal-counts rule percentile s (w / 2) (h / 2) (halved a) (halved b) (coarser-equal (coarse .counts) (map count (map (added centre) wardOrder)) s size equal) in
+      equal-counts rule percentile s (w / 2) (h / 2) (halved a) (halved b) (coarser-equal (coarse .counts) (map count (map (added centre) wardOrder)) (s + 1) size (rw more at equal)) in
       let n : ℕ = 2 ^ suc s - 1 in
       let e : n + n + 1 ≡ 2 ^ suc (suc s) - 1 = omega (arith, pow-pos s) in
       level-first count centre (nine-equal count centre (coarse .counts) (suc s) (omega arith) equal)

@@ -2,7 +2,7 @@
 -- prefer the least move". Where the nine counts of each level are equal, a pair stays where it is by the least move, and goes to the corner in Ward's order.
 use mathlib.Core.Path.{_≡_}
 use mathlib.Core.List.{List}
-use Prim.Native.Nat.{ℕ, suc, _+_, _*_, _-_, _^_, _≤_, _<_}
+use Prim.Native.Nat.{ℕ, suc, _+_, _*_, _-_, _^_, _<_}
 use lib.IntN.{pos, negℤ}
 use lib.ListN.{getD}
 use Rattle.rules.specs.declared.Offset.{Offset}
@@ -10,15 +10,15 @@ use Rattle.rules.specs.declared.Setup.{Setup}
 use Rattle.rules.specs.Levels.{still, wardOrder, leastMoveOrder}
 use Rattle.rules.specs.Calls.{pairResult}
 
--- of the counts of s + 1 levels, nine a level: those of each level are equal
+-- of the counts of n levels, nine a level: those of each level are equal
 abbrev pub Equal : ℕ → List ℕ → Type 0
-Equal s counts = (k j : ℕ) → k ≤ s → j < 9 → getD counts (9 * k + j) 0 ≡ getD counts (9 * k) 0
+Equal n counts = (k j : ℕ) → k < n → j < 9 → getD counts (9 * k + j) 0 ≡ getD counts (9 * k) 0
 
 -- −(2^(s+1)−1) on both axes
 abbrev pub corner : ℕ → Offset
 corner s = record { dx = negℤ (pos (2 ^ suc s - 1)); dy = negℤ (pos (2 ^ suc s - 1)) }
 
--- for any two rasters and any setup, by the counts that the call itself writes (proved in proofs/SkyLaws.antt as `blank-sky`)
+-- For any two rasters and any setup, by the counts that the call itself writes; `BlankSeries` of `reexposure` has it for whole series (proved in proofs/SkyLaws.antt as `blank-sky`)
 pub record BlankSky : Type 0 where
-  pub leastMove : (S : Setup) (first second : List ℕ) → Equal (S .s) (pairResult leastMoveOrder S first second .counts) → pairResult leastMoveOrder S first second .offset ≡ still
-  pub ward : (S : Setup) (first second : List ℕ) → Equal (S .s) (pairResult wardOrder S first second .counts) → pairResult wardOrder S first second .offset ≡ corner (S .s)
+  pub leastMove : (S : Setup) (first second : List ℕ) → Equal (S .s + 1) (pairResult leastMoveOrder S first second .counts) → pairResult leastMoveOrder S first second .offset ≡ still
+  pub ward : (S : Setup) (first second : List ℕ) → Equal (S .s + 1) (pairResult wardOrder S first second .counts) → pairResult wardOrder S first second .offset ≡ corner (S .s)

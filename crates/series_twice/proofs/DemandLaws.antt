@@ -20,7 +20,7 @@ use Rattle.rules.proofs.AlignmentLaws.{series-ok}
 use Rattle.reexposure.specs.Reexposure.{Bytes, Sound, Bounded, Alike}
 use Rattle.reexposure.proofs.Theorem.{demand3}
 use Rattle.rules.proofs.LevelLaws.{wardPlaces, leastMovePlaces, ward-arrangement, least-move-arrangement, counts-length}
-use Rattle.next_pair.proofs.RunLaws.{length-counts}
+use Rattle.rules.proofs.SeriesLaws.{length-counts}
 use Rattle.series_twice.specs.Demand.{packedAnswer, Given, Demanded}
 
 module _ (preferred : List Offset) (S : Settings) where
