@@ -171,8 +171,8 @@ uint32_t mtb_pair(uint32_t w, uint32_t h, uint32_t s, uint32_t tolerance, uint32
                   uint64_t *words, size_t words_len);
 
 /*
- * A series of n frames, 1 to 16, aligned pair by pair: frames 0 and 1 with percentiles[0], frames 1
- * and 2 with percentiles[1], and so on. r is the frame that all offsets refer to, 0 to n-1.
+ * A series of n frames, 1 to 16, aligned pair by pair as by mtb_pair: frames 0 and 1 with
+ * percentiles[0], frames 1 and 2 with percentiles[1], and so on. r is the frame that all offsets refer to, 0 to n-1.
  * percentiles: n-1 numbers. rasters: n*3*w*h bytes, one raster after another.
  * offsets: 2*n numbers, dx and dy of each frame: the move that brings it onto frame r, by the sum over
  * the pairs between; (0, 0) for frame r itself. counts: 9*(s+1)*(n-1) numbers, those of each pair as
@@ -189,8 +189,8 @@ uint32_t mtb_series(uint32_t w, uint32_t h, uint32_t s, uint32_t tolerance, uint
 /*
  * The same two in the order of Ward's paper, for comparison with it and with programs that follow it:
  * among equal counts a level's answer is the first of its nine as they are written, i from -1 to 1 and
- * within each i j from -1 to 1. Blank sky then gives -(2^(s+1) - 1) on both axes, as far as it goes.
- * Nothing else differs from mtb_pair and mtb_series.
+ * within each i j from -1 to 1. Blank sky then gives a pair -(2^(s+1) - 1) on both axes, as far as it
+ * goes, and a series the sums of that. Nothing else differs from mtb_pair and mtb_series.
  */
 uint32_t mtb_pair_ward(uint32_t w, uint32_t h, uint32_t s, uint32_t tolerance, uint32_t percentile,
                        const uint8_t *first, size_t first_len,

@@ -19,7 +19,7 @@ refusalIn (Written.Refused n) = n
 abbrev pub offset : ℤ → ℤ → Offset
 offset dx dy = record { dx = dx; dy = dy }
 
--- a pair's answer: its refusal number, and the offset behind two pointers after it, which was another before
+-- a pair's answer: its refusal number; and the offset behind two pointers after the call, from the answer and what stood there before
 abbrev pub pairRefusalIn : Paired → ℕ
 pairRefusalIn (Paired.Moved m) = 0
 pairRefusalIn (Paired.Refused n) = n

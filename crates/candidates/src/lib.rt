@@ -59,8 +59,8 @@ pub fn candidate(centre: Offset, k: usize) -> Offset
     }
 }
 
-// The rank of the first least of nine counts, which stand from place `at` on in Ward's order. The
-// candidates are ranked by their places in it.
+// The rank of the first least of nine counts, which stand from place `at` on in Ward's order. `order`
+// has the candidates' places there, the preferred one first; a rank is a place in `order`.
 pub fn first_least(counts: &[u32], at: usize, order: &[usize; 9]) -> usize
     requires nine { ⌜ at + 9 ≤ length (now counts) ⌝ }
     requires order { ⌜ Arrangement (now order) ⌝ }

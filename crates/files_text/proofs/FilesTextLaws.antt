@@ -10,7 +10,7 @@ use lib.ListN.{length, drop}
 use Rattle.rules.specs.declared.Offset.{Offset}
 use Rattle.rules.specs.declared.Paired.{Paired}
 use Rattle.rules.specs.Answers.{paired, bufferAfter}
-use Rattle.rules.specs.Levels.{wardOrder, byTolerance, Aligned}
+use Rattle.rules.specs.Levels.{byTolerance, Aligned}
 use Rattle.rules.specs.Refusals.{_orElse_, toleranceRefusal}
 use Rattle.rules.specs.Calls.{pairResult}
 use Rattle.rules.specs.Accepted.{PairOk}
@@ -80,7 +80,7 @@ module _ (size : Size) (s tolerance percentile : ℕ) (first second : List ℕ) 
         → pairText size s tolerance percentile first second ≡ offsetText (m .dx) (m .dy) ++ levelsText s after
     unfolding pairText answerText pairResult
     pair-moved-text before after d =
-        let size-is = counts-length wardOrder (byTolerance tolerance) percentile s (size .w) (size .h) _ _ in
+        let size-is = counts-length _ (byTolerance tolerance) percentile s (size .w) (size .h) _ _ in
         let counts : levelsText s after ≡ levelsText s (result .counts) =
         rw (d, accepted .0) (levels-enough s (result .counts) (drop (length (result .counts)) before) size-is) in
         rw (accepted .0, accepted .1, counts)

@@ -1,5 +1,5 @@
 -- The offsets of a series whose pairs all stay, and of one whose pairs all go to the corner; and when they do, by the counts.
-use mathlib.Core.Path.{_≡_, refl, sym, ap, ap₂, _∙_}
+use mathlib.Core.Path.{_≡_, refl, sym, ap, ap₂, subst, _∙_}
 use mathlib.Core.Bool.{Bool, true, false, cond}
 use mathlib.Core.List.{List}
 use Prim.Native.Nat.{ℕ, zero, suc, _+_, _*_, _-_, _^_, _≤_, _<_, min, max}
@@ -7,17 +7,21 @@ use native.Mathlib.Nat.{zero-mul, suc-mul, mul-comm, mul-assoc, mul-le-mul-right
 use native.Mathlib.Omega.{arith}
 use lib.Dec.{leb}
 use lib.IntN.{ℤ, pos, negℤ, natAbs, _+ℤ_, negℤ-+ℤ}
-use lib.ListN.{length, getD}
+use lib.ListN.{length, getD, take}
 use borrow.Author.Tests.{leb-true, leb-false}
 use Rattle.rules.specs.declared.Offset.{Offset}
 use Rattle.rules.specs.Planes.{distance}
 use Rattle.rules.specs.Levels.{still, added, arranged, Arrangement, ruleOf, Aligned, pair}
 use Rattle.rules.specs.Series.{Settings, greyOf, pairOf, sumFrom, opposite, frameOffset, countList, answerOf, answerBy, seriesAnswer}
+use Rattle.rules.specs.declared.Written.{Written}
+use Rattle.rules.specs.Calls.{exclusionRefusal, seriesNumber, SeriesCall}
 use Rattle.rules.specs.BlankSky.{Equal}
 use Rattle.rules.proofs.OffsetLaws.{abs-neg, offset-at}
 use Rattle.rules.proofs.LevelLaws.{wardPlaces, leastMovePlaces, ward-arrangement, least-move-arrangement, counts-length}
-use Rattle.rules.proofs.SeriesLaws.{count-at}
-use Rattle.rules.proofs.SkyLaws.{timesStep, firstStep, equal-counts, least-stays, ward-corner}
+use Rattle.rules.proofs.RefusalLaws.{buffer-part}
+use Rattle.rules.proofs.AlignmentLaws.{series-ok}
+use Rattle.rules.proofs.SeriesLaws.{offset-list-ext, count-at, offsets-size, counts-size}
+use Rattle.rules.proofs.SkyLaws.{timesStep, firstStep, equal-counts, least-stays, ward-corner, written-equal}
 use Rattle.reexposure.specs.BlankSeries.{Unmoved, Reached, levelsOf, BlankSeries}
 
 -- −n on both axes
@@ -83,17 +87,14 @@ module _ (preferred : List Offset) (S : Settings) (F : List ℕ) where
   abbrev offsetOf : ℕ → Offset
   offsetOf = frameOffset (λ j. pairIn j .offset) (S .reference)
 
-  pub series-unmoved : S .reference < S .frames → ((j : ℕ) → j < S .frames - 1 → pairIn j .offset ≡ still) → Unmoved S (seriesAnswer preferred S F)
+  pub series-unmoved : S .reference < S .frames → ((j : ℕ) → j < S .frames - 1 → pairIn j .offset ≡ still) → Unmoved S (seriesAnswer preferred S F .offsets)
   unfolding seriesAnswer answerBy answerOf
-  series-unmoved l e = record {
-    dx = λ k m. offset-at (S .frames) offsetOf k m .0 ∙ ap (λ (o : Offset). o .dx) (stays k m);
-    dy = λ k m. offset-at (S .frames) offsetOf k m .1 ∙ ap (λ (o : Offset). o .dy) (stays k m);
-  }
-    where
-      stays : (k : ℕ) → k < S .frames → offsetOf k ≡ still
-      stays k m = frame-still (λ j. pairIn j .offset) (S .frames - 1) (S .reference) k (omega arith) (omega arith) e
+  series-unmoved l e =
+      offset-list-ext (S .frames) offsetOf (λ k. still)
+      (λ k m. frame-still (λ j. pairIn j .offset) (S .frames - 1) (S .reference) k (omega arith) (omega arith) e)
 
-  pub series-reached : S .reference < S .frames → ((j : ℕ) → j < S .frames - 1 → pairIn j .offset ≡ back (2 ^ suc (S .halvings) - 1)) → Reached S (seriesAnswer preferred S F)
+  pub series-reached : S .reference < S .frames → ((j : ℕ) → j < S .frames - 1 → pairIn j .offset ≡ back (2 ^ suc (S .halvings) - 1))
+      → Reached S (seriesAnswer preferred S F .offsets)
   unfolding seriesAnswer answerBy answerOf
   series-reached l e = record {
     dx = λ k m. ap natAbs (offset-at (S .frames) offsetOf k m .0) ∙ sized k m .0;
@@ -134,12 +135,35 @@ module _ (places : List ℕ) (fits : Arrangement places) (S : Settings) (F : Lis
       (part-equal (S .frames - 1) (S .halvings + 1) (pairIn (arranged places) S F)
       (λ k. counts-length (arranged places) (ruleOf (S .exclusion)) (getD (S .percentiles) k 0) (S .halvings) (S .w) (S .h) (greyOf S F k) (greyOf S F (k + 1))) equal j l)
 
+-- ---- an accepted call
+
+module _ (preferred : List Offset) (S : Settings) (F : List ℕ) (offsets offsets′ : List ℤ) (counts counts′ grey grey′ words words′ : List ℕ) (r : Written)
+    (z : seriesNumber S F offsets counts grey words ≡ 0) (call : SeriesCall preferred S F offsets offsets′ counts counts′ grey grey′ words words′ r) where
+  reference-ok : S .reference < S .frames
+  reference-ok =
+      series-ok (S .w) (S .h) (S .halvings) (exclusionRefusal (S .exclusion)) (S .frames) (S .reference) (S .percentiles)
+      (length F) (length offsets) (length counts) (length grey) (length words) z .reference
+
+  answer-equal : Equal (levelsOf S) counts′ → Equal (levelsOf S) (seriesAnswer preferred S F .counts)
+  answer-equal equal =
+      written-equal (levelsOf S) (seriesNumber S F offsets counts grey words) (seriesAnswer preferred S F .counts) counts counts′ z
+      (let a = counts-size preferred S F in let b = mul-assoc 9 (S .halvings + 1) (S .frames - 1) in let c = mul-comm (S .halvings + 1) (S .frames - 1) in
+      let d = ap (λ (p : ℕ). 9 * p) c in omega arith)
+      (call .countsAre) equal
+
+  written-is : take (2 * S .frames) offsets′ ≡ seriesAnswer preferred S F .offsets
+  written-is = buffer-part (seriesNumber S F offsets counts grey words) (2 * S .frames) (seriesAnswer preferred S F .offsets) offsets offsets′ z (offsets-size preferred S F) (call .offsetsAre)
+
 pub blank-series : BlankSeries
 blank-series = record {
-  leastMove = λ S F l equal.
-      series-unmoved (arranged leastMovePlaces) S F l
-      (λ j m. pair-first leastMovePlaces least-move-arrangement S F equal j m ∙ least-stays (2 ^ suc (S .halvings) - 1));
-  ward = λ S F l equal.
-      series-reached (arranged wardPlaces) S F l
-      (λ j m. pair-first wardPlaces ward-arrangement S F equal j m ∙ ward-corner (2 ^ suc (S .halvings) - 1));
+  leastMove = λ S F offsets offsets′ counts counts′ grey grey′ words words′ r z call equal.
+      let same = answer-equal (arranged leastMovePlaces) S F offsets offsets′ counts counts′ grey grey′ words words′ r z call equal in
+      subst (Unmoved S) (sym (written-is (arranged leastMovePlaces) S F offsets offsets′ counts counts′ grey grey′ words words′ r z call))
+      (series-unmoved (arranged leastMovePlaces) S F (reference-ok (arranged leastMovePlaces) S F offsets offsets′ counts counts′ grey grey′ words words′ r z call)
+      (λ j m. pair-first leastMovePlaces least-move-arrangement S F same j m ∙ least-stays (2 ^ suc (S .halvings) - 1)));
+  ward = λ S F offsets offsets′ counts counts′ grey grey′ words words′ r z call equal.
+      let same = answer-equal (arranged wardPlaces) S F offsets offsets′ counts counts′ grey grey′ words words′ r z call equal in
+      subst (Reached S) (sym (written-is (arranged wardPlaces) S F offsets offsets′ counts counts′ grey grey′ words words′ r z call))
+      (series-reached (arranged wardPlaces) S F (reference-ok (arranged wardPlaces) S F offsets offsets′ counts counts′ grey grey′ words words′ r z call)
+      (λ j m. pair-first wardPlaces ward-arrangement S F same j m ∙ ward-corner (2 ^ suc (S .halvings) - 1)));
 }

@@ -3,30 +3,34 @@
 use mathlib.Core.Path.{_≡_}
 use mathlib.Core.List.{List}
 use Prim.Native.Nat.{ℕ, suc, _+_, _*_, _-_, _^_, _<_}
-use lib.IntN.{pos, natAbs}
-use lib.ListN.{getD}
+use lib.IntN.{ℤ, pos, natAbs}
+use lib.ListN.{getD, take}
+use Rattle.rules.specs.declared.Written.{Written}
 use Rattle.rules.specs.Planes.{distance}
-use Rattle.rules.specs.Levels.{wardOrder, leastMoveOrder}
-use Rattle.rules.specs.Series.{Settings, Answer, seriesAnswer}
+use Rattle.rules.specs.Levels.{still, wardOrder, leastMoveOrder}
+use Rattle.rules.specs.Series.{Settings, offsetList}
+use Rattle.rules.specs.Calls.{seriesNumber, SeriesCall}
 use Rattle.rules.specs.BlankSky.{Equal}
 
--- frame k's offset is (0,0)
-pub record Unmoved (S : Settings) (answer : Answer) : Type 0 where
-  pub dx : (k : ℕ) → k < S .frames → getD (answer .offsets) (2 * k) (pos 0) ≡ pos 0
-  pub dy : (k : ℕ) → k < S .frames → getD (answer .offsets) (2 * k + 1) (pos 0) ≡ pos 0
+-- the offsets of N frames, all (0,0)
+abbrev pub Unmoved : Settings → List ℤ → Type 0
+Unmoved S offsets = offsets ≡ offsetList (S .frames) (λ k. still)
 
 -- frame k's offset is in size |k−r|·(2^(s+1)−1) on each axis
-pub record Reached (S : Settings) (answer : Answer) : Type 0 where
-  pub dx : (k : ℕ) → k < S .frames → natAbs (getD (answer .offsets) (2 * k) (pos 0)) ≡ distance k (S .reference) * (2 ^ suc (S .halvings) - 1)
-  pub dy : (k : ℕ) → k < S .frames → natAbs (getD (answer .offsets) (2 * k + 1) (pos 0)) ≡ distance k (S .reference) * (2 ^ suc (S .halvings) - 1)
+pub record Reached (S : Settings) (offsets : List ℤ) : Type 0 where
+  pub dx : (k : ℕ) → k < S .frames → natAbs (getD offsets (2 * k) (pos 0)) ≡ distance k (S .reference) * (2 ^ suc (S .halvings) - 1)
+  pub dy : (k : ℕ) → k < S .frames → natAbs (getD offsets (2 * k + 1) (pos 0)) ≡ distance k (S .reference) * (2 ^ suc (S .halvings) - 1)
 
 -- the s + 1 levels of N − 1 pairs
 abbrev pub levelsOf : Settings → ℕ
 levelsOf S = (S .frames - 1) * (S .halvings + 1)
 
--- for all settings whose reference is one of the frames, and any rasters, by the counts that the call itself writes (proved in proofs/BlankSeriesLaws.antt as `blank-series`)
+-- What a series call that was accepted has written into its offsets where the counts that it has written are equal, for any rasters and settings (proved in
+-- proofs/BlankSeriesLaws.antt as `blank-series`).
 pub record BlankSeries : Type 0 where
-  pub leastMove : (S : Settings) (F : List ℕ) → S .reference < S .frames
-      → Equal (levelsOf S) (seriesAnswer leastMoveOrder S F .counts) → Unmoved S (seriesAnswer leastMoveOrder S F)
-  pub ward : (S : Settings) (F : List ℕ) → S .reference < S .frames
-      → Equal (levelsOf S) (seriesAnswer wardOrder S F .counts) → Reached S (seriesAnswer wardOrder S F)
+  pub leastMove : (S : Settings) (F : List ℕ) (offsets offsets′ : List ℤ) (counts counts′ grey grey′ words words′ : List ℕ) (r : Written)
+      → seriesNumber S F offsets counts grey words ≡ 0 → SeriesCall leastMoveOrder S F offsets offsets′ counts counts′ grey grey′ words words′ r
+      → Equal (levelsOf S) counts′ → Unmoved S (take (2 * S .frames) offsets′)
+  pub ward : (S : Settings) (F : List ℕ) (offsets offsets′ : List ℤ) (counts counts′ grey grey′ words words′ : List ℕ) (r : Written)
+      → seriesNumber S F offsets counts grey words ≡ 0 → SeriesCall wardOrder S F offsets offsets′ counts counts′ grey grey′ words words′ r
+      → Equal (levelsOf S) counts′ → Reached S (take (2 * S .frames) offsets′)

@@ -1,4 +1,4 @@
--- The worked examples come out as document 01 prints them: each by computing the definitions.
+-- The worked examples come out as document 01 prints them, and so does a tie: each by computing the definitions.
 use mathlib.Core.Path.{_≡_, refl, ap₂, fun-ext, _∙_}
 use mathlib.Core.List.{List, [], _∷_}
 use Prim.Native.Nat.{ℕ, zero, suc, _+_, _*_}
@@ -9,6 +9,8 @@ use Rattle.rules.specs.Frames.{Frame, frameOf}
 use Rattle.rules.specs.Greys.{grey, greyFrame, insert, sorted, secondSmallest, halved}
 use Rattle.rules.specs.Thresholds.{atMost, reaches, least, threshold}
 use Rattle.rules.specs.Planes.{thresholdBit, distance, exclusionBit, bitsBy, within}
+use Rattle.rules.specs.Bitmaps.{rowWords}
+use Rattle.rules.specs.Refusals.{badSide, badSize, badHalvings, tooSmall, badTolerance, badPercentile, levelPixels, pairRefusal}
 use Rattle.rules.specs.Differences.{Planes, differ, differAt, difference}
 use Rattle.rules.specs.Levels.{still, wardOrder, leastMoveOrder, byTolerance, planesBy, Aligned, firstLeast, chosen, level, countAt, pair}
 use Rattle.rules.specs.declared.Offset.{Offset}
@@ -16,7 +18,7 @@ use Rattle.rules.specs.Calls.{pairResult}
 use Rattle.rules.specs.Examples.{ExamplesHold, one, oneToFour, firstRows, secondRows, colourless, numbers, printedResult, aligned}
 use Rattle.rules.specs.TwoLevels.{TwoLevels}
 use Rattle.rules.specs.Ties.{tiedFirst, tiedSecond, tiedBy, Tied}
-use Rattle.rules.specs.FlatFrames.{flat, plateUnmoved, plateInCorner}
+use Rattle.rules.specs.FlatFrames.{flat, flatUnmoved, flatInCorner}
 
 -- the two planes once the threshold is known, so that it is worked out once and not for each pixel
 abbrev planesAt : ℕ → Frame → Planes
@@ -82,12 +84,12 @@ unfolding pairResult
 tied-rows order = ap₂ (λ (f g : Frame). pair order (byTolerance 0) 50 1 8 8 f g) (colourless-frame 8 tiedFirst) (colourless-frame 8 tiedSecond)
 
 pub tied : Tied
-unfolding sum sumPixels frameOf insert sorted secondSmallest halved atMost reaches least threshold thresholdBit
+unfolding rowWords badSide badSize badHalvings tooSmall badTolerance badPercentile levelPixels pairRefusal sum sumPixels frameOf insert sorted secondSmallest halved atMost reaches least threshold thresholdBit
     distance exclusionBit within differ differAt difference planesBy firstLeast chosen level countAt pair
-tied = record { leastMove = tied-rows leastMoveOrder; ward = tied-rows wardOrder }
+tied = record { accepted = refl; leastMove = tied-rows leastMoveOrder; ward = tied-rows wardOrder }
 
 -- the flat plate at grey 0 by both orders; FlatLaws.antt and FlatRasterLaws.antt have it for every flat frame
-flat-computed : (pair leastMoveOrder (byTolerance 0) 50 2 16 16 (flat 0) (flat 0) ≡ plateUnmoved) × (pair wardOrder (byTolerance 0) 50 2 16 16 (flat 0) (flat 0) ≡ plateInCorner)
+flat-computed : (pair leastMoveOrder (byTolerance 0) 50 2 16 16 (flat 0) (flat 0) ≡ flatUnmoved) × (pair wardOrder (byTolerance 0) 50 2 16 16 (flat 0) (flat 0) ≡ flatInCorner)
 unfolding sum sumPixels insert sorted secondSmallest halved atMost reaches least threshold thresholdBit
     distance exclusionBit within differ differAt difference planesBy firstLeast chosen level countAt pair
 flat-computed = (refl, refl)

@@ -74,7 +74,7 @@ module _ (tolerance percentile w h v : ℕ) (some : 1 ≤ percentile) (most : pe
   unfolding countAt difference
   no-count = fun-ext (λ m. pixels-zero w h (differAt w h (m .dx) (m .dy) planes planes) (none-differs m))
 
-more-zeros : (m n : ℕ) → zeros m ++ zeros n ≡ zeros (m + n)
+pub more-zeros : (m n : ℕ) → zeros m ++ zeros n ≡ zeros (m + n)
 more-zeros zero n = let e : n ≡ 0 + n = omega arith in ap zeros e
 more-zeros (suc m) n = let e : suc (m + n) ≡ suc m + n = omega arith in ap (λ (l : List ℕ). 0 ∷ l) (more-zeros m n) ∙ ap zeros e
 

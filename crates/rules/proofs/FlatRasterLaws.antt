@@ -1,10 +1,12 @@
 -- The pair calls' results for flat rasters, since they see them only at their pixels; and document 01's plate.
-use mathlib.Core.Path.{_≡_, ap, _∙_}
+use mathlib.Core.Path.{_≡_, refl, ap, _∙_}
 use mathlib.Core.List.{List}
 use Prim.Native.Nat.{ℕ, suc, _-_, _^_, _≤_}
 use Rattle.rules.specs.Limits.{maxGrey}
 use Rattle.rules.specs.Greys.{greyFrame}
 use Rattle.rules.specs.Levels.{Arrangement, arranged, byTolerance}
+use Rattle.rules.specs.Bitmaps.{rowWords}
+use Rattle.rules.specs.Refusals.{badSide, badSize, badHalvings, tooSmall, badTolerance, badPercentile, levelPixels, pairRefusal}
 use Rattle.rules.specs.Calls.{toleranceSetup, pairResult}
 use Rattle.rules.specs.FlatFrames.{flat, FlatRaster, blank, FlatFrames, FlatPlate}
 use Rattle.rules.proofs.LevelLaws.{wardPlaces, leastMovePlaces, ward-arrangement, least-move-arrangement}
@@ -27,4 +29,5 @@ flat-frames w h s tolerance percentile v first second some most byte one two = (
 )
 
 pub flat-plate : FlatPlate
-flat-plate tolerance percentile v first second = flat-frames 16 16 2 tolerance percentile v first second
+unfolding rowWords badSide badSize badHalvings tooSmall badTolerance badPercentile levelPixels pairRefusal
+flat-plate = record { accepted = refl; answers = flat-frames 16 16 2 }

@@ -1,11 +1,13 @@
 -- Laws of refusal numbers: what an accepted call knows of its sizes, and the answers of a refused one.
-use mathlib.Core.Path.{_≡_, refl, sym, _∙_}
+use mathlib.Core.Path.{_≡_, refl, sym, ap, _∙_}
 use mathlib.Core.Bool.{Bool, true, false, _||_, true≢false}
 use mathlib.Core.List.{List}
 use Prim.Native.Nat.{ℕ, zero, suc, _/_, _≤_, _<_}
 use native.Mathlib.Nat.{mul-le-mul}
 use native.Mathlib.Omega.{arith}
 use lib.Dec.{ltb, eqb}
+use lib.ListN.{length, getD, take, drop, List·getD-append}
+use lib.Seq.{take-at}
 use borrow.Author.Tests.{ltb-false, eqb-false, eqb-true, not-false}
 use Rattle.rules.specs.declared.Written.{Written}
 use Rattle.rules.specs.declared.Counted.{Counted}
@@ -220,3 +222,11 @@ thresholded-refused (suc n) v l = refl
 pub buffer-refused : {A : Type 0} (n : ℕ) (out before : List A) → (n ≡ 0 → ⊥) → before ≡ bufferAfter n out before
 buffer-refused zero out before l = absurd (l refl)
 buffer-refused (suc n) out before l = refl
+
+-- An accepted call: a lent buffer begins with what was written.
+pub buffer-part : {A : Type 0} (number n : ℕ) (out before after : List A) → number ≡ 0 → length out ≡ n → after ≡ bufferAfter number out before → take n after ≡ out
+buffer-part number n out before after z size e =
+    ap (take n) (e ∙ ap (λ (k : ℕ). bufferAfter k out before) z) ∙ take-at out (drop (length out) before) n size
+
+pub buffer-at : {A : Type 0} (number : ℕ) (out before : List A) (d : A) (i : ℕ) → number ≡ 0 → i < length out → getD (bufferAfter number out before) i d ≡ getD out i d
+buffer-at number out before d i z l = rw z (List·getD-append out (drop (length out) before) d i l)

@@ -3,15 +3,17 @@ use mathlib.Core.Path.{_≡_, refl, sym, ap, ap₂, _∙_}
 use mathlib.Core.Logic.{⊎-elim}
 use mathlib.Core.List.{List, [], _∷_, _++_}
 use Prim.Native.Nat.{ℕ, zero, suc, _+_, _*_, _-_, _≤_, _<_, min, max}
-use native.Mathlib.Nat.{add-zero, zero-mul, suc-mul, mul-le-mul-right}
+use native.Mathlib.Nat.{add-zero, zero-mul, suc-mul, mul-comm, mul-le-mul-right}
 use native.Mathlib.Omega.{arith}
 use lib.IntN.{ℤ, pos, negℤ, _+ℤ_, +ℤ-idl, +ℤ-idr, +ℤ-assoc, +ℤ-comm, +ℤ-invl, negℤ-+ℤ}
 use lib.ListN.{length, getD, length-append, List·getD-append}
 use lib.Seq.{getD-append-add}
 use borrow.Author.Tests.{le-leb, lt-leb}
 use Rattle.rules.specs.declared.Offset.{Offset}
-use Rattle.rules.specs.Levels.{still, added, Aligned}
-use Rattle.rules.specs.Series.{sumFrom, opposite, frameOffset, offsetList, countList}
+use Rattle.rules.specs.Levels.{still, added, ruleOf, Aligned, pair}
+use Rattle.rules.specs.Series.{Settings, greyOf, pairOf, sumFrom, opposite, frameOffset, offsetList, countList, answerOf, answerBy, seriesAnswer}
+use Rattle.rules.proofs.OffsetLaws.{length-offsets}
+use Rattle.rules.proofs.LevelLaws.{counts-length}
 use Rattle.rules.proofs.SumLaws.{order}
 
 -- a sum of offsets begun at its front
@@ -151,3 +153,21 @@ module _ (each : ℕ) (pairs : ℕ → Aligned) (sizes : (j : ℕ) → length (p
           ap (λ (j : ℕ). getD (countList n pairs ++ pairs n .counts) j 0) e
           ∙ getD-append-add (countList n pairs) (pairs n .counts) i 0
           ∙ ap (λ (j : ℕ). getD (pairs j .counts) i 0) (sym d)
+
+-- The sizes of a series' answer.
+module _ (preferred : List Offset) (S : Settings) where
+  pairs : List ℕ → ℕ → Aligned
+  pairs F = pairOf (λ p. pair preferred (ruleOf (S .exclusion)) p (S .halvings) (S .w) (S .h)) (S .percentiles) (greyOf S F)
+
+  -- An answer has 2·N offsets and 9·(s+1)·(N−1) counts.
+  pub offsets-size : (F : List ℕ) → length (seriesAnswer preferred S F .offsets) ≡ 2 * S .frames
+  unfolding seriesAnswer answerBy answerOf pairs
+  offsets-size F = length-offsets (S .frames) (frameOffset (λ k. pairs F k .offset) (S .reference))
+
+  pub counts-size : (F : List ℕ) → length (seriesAnswer preferred S F .counts) ≡ 9 * (S .halvings + 1) * (S .frames - 1)
+  unfolding seriesAnswer answerBy answerOf pairOf pairs
+  counts-size F =
+      length-counts (9 * (S .halvings + 1)) (pairs F)
+      (λ j. counts-length preferred (ruleOf (S .exclusion)) (getD (S .percentiles) j 0) (S .halvings) (S .w) (S .h) (greyOf S F j) (greyOf S F (j + 1)))
+      (S .frames - 1)
+      ∙ mul-comm (S .frames - 1) (9 * (S .halvings + 1))

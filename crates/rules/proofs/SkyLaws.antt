@@ -1,18 +1,22 @@
 -- Where all counts of a level are equal the first candidate of the order is taken; s + 1 such levels add up to 2^(s+1)−1 of its steps.
 use mathlib.Core.Path.{_≡_, sym, ap, ap₂, _∙_}
 use mathlib.Core.List.{List, [], _++_, map}
-use Prim.Native.Nat.{ℕ, zero, suc, _+_, _*_, _-_, _/_, _^_, _<_}
+use Prim.Native.Nat.{ℕ, zero, suc, _+_, _*_, _-_, _/_, _^_, _≤_, _<_}
 use native.Mathlib.Omega.{arith}
 use lib.IntN.{ℤ, pos, negℤ, _+ℤ_, _*ℤ_, +ℤ-idl, +ℤ-idr, +ℤ-assoc, zero-*ℤ, *ℤ-zero, pos-*ℤ-negsuc, sucℤ-*ℤ}
 use lib.ListN.{length, getD, List·getD-append}
 use lib.Seq.{getD-append-add}
 use lib.Pow.{pow-pos}
 use Rattle.rules.specs.declared.Offset.{Offset}
+use Rattle.rules.specs.declared.Setup.{Setup}
+use Rattle.rules.specs.declared.Paired.{Paired}
 use Rattle.rules.specs.Frames.{Frame}
 use Rattle.rules.specs.Greys.{greyFrame, halved}
 use Rattle.rules.specs.Levels.{still, added, wardOrder, arranged, Arrangement, ExclusionRule, ruleOf, chosen, candidateAt, level, countAt, pair}
-use Rattle.rules.specs.Calls.{pairResult}
+use Rattle.rules.specs.Answers.{paired, bufferAfter}
+use Rattle.rules.specs.Calls.{pairNumber, pairResult, PairCall}
 use Rattle.rules.specs.BlankSky.{Equal, BlankSky}
+use Rattle.rules.proofs.RefusalLaws.{buffer-at}
 use Rattle.rules.proofs.LevelLaws.{chosen-is, map-at, arranged-at, arranged-length, wardPlaces, leastMovePlaces, ward-arrangement, least-move-arrangement, counts-length}
 
 -- ---- n times a step
@@ -118,13 +122,32 @@ ward-corner n =
     let f = pos-*ℤ-negsuc n 0 ∙ ap (λ (k : ℕ). negℤ (pos k)) e in
     λ i. record { dx = f i; dy = f i }
 
-pub blank-sky : BlankSky
+-- ---- the two calls
+
+-- counts that stand at the beginning of an accepted call's buffer
+pub written-equal : (n number : ℕ) (out before after : List ℕ) → number ≡ 0 → 9 * n ≤ length out → after ≡ bufferAfter number out before → Equal n after → Equal n out
+written-equal n number out before after z room e equal k j l m =
+    let same = rw e at (equal k j l m) in
+    sym (buffer-at number out before 0 (9 * k + j) z (omega arith)) ∙ same ∙ buffer-at number out before 0 (9 * k) z (omega arith)
+
+pair-blank : (places : List ℕ) (fits : Arrangement places) (S : Setup) (first second counts counts′ grey grey′ words words′ : List ℕ) (r : Paired)
+    → pairNumber S first second counts grey words ≡ 0 → PairCall (arranged places) S first second counts counts′ grey grey′ words words′ r → Equal (S .s + 1) counts′
+    → r ≡ Paired.Moved (timesStep (2 ^ suc (S .s) - 1) (firstStep places fits))
 unfolding pairResult
+pair-blank places fits S first second counts counts′ grey grey′ words words′ r z call equal =
+    let a = greyFrame (S .w) first in
+    let b = greyFrame (S .w) second in
+    let result = pairResult (arranged places) S first second in
+    let size : length (result .counts) ≡ 9 * (S .s + 1) = counts-length (arranged places) (ruleOf (S .exclusion)) (S .percentile) (S .s) (S .w) (S .h) a b in
+    call .answered ∙ ap (λ (n : ℕ). paired n (result .offset)) z
+    ∙ ap Paired.Moved (equal-counts places fits (ruleOf (S .exclusion)) (S .percentile) (S .s) (S .w) (S .h) a b
+    (written-equal (S .s + 1) (pairNumber S first second counts grey words) (result .counts) counts counts′ z (omega arith) (call .countsAre) equal))
+
+pub blank-sky : BlankSky
 blank-sky = record {
-  leastMove = λ S first second equal.
-      equal-counts leastMovePlaces least-move-arrangement (ruleOf (S .exclusion)) (S .percentile) (S .s) (S .w) (S .h) (greyFrame (S .w) first) (greyFrame (S .w) second) equal
-      ∙ least-stays (2 ^ suc (S .s) - 1);
-  ward = λ S first second equal.
-      equal-counts wardPlaces ward-arrangement (ruleOf (S .exclusion)) (S .percentile) (S .s) (S .w) (S .h) (greyFrame (S .w) first) (greyFrame (S .w) second) equal
-      ∙ ward-corner (2 ^ suc (S .s) - 1);
+  leastMove = λ S first second counts counts′ grey grey′ words words′ r z call equal.
+      pair-blank leastMovePlaces least-move-arrangement S first second counts counts′ grey grey′ words words′ r z call equal
+      ∙ ap Paired.Moved (least-stays (2 ^ suc (S .s) - 1));
+  ward = λ S first second counts counts′ grey grey′ words words′ r z call equal.
+      pair-blank wardPlaces ward-arrangement S first second counts counts′ grey grey′ words words′ r z call equal ∙ ap Paired.Moved (ward-corner (2 ^ suc (S .s) - 1));
 }

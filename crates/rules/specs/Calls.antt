@@ -90,7 +90,7 @@ pub record PairLeft (number : ℕ) (result : Aligned) (counts counts′ grey gre
   pub countsAre : counts′ ≡ bufferAfter number (result .counts) counts
   pub memoryKept : (number ≡ 0 → ⊥) → (grey′ ≡ grey) × (words′ ≡ words)
 
--- the pair call: each lent buffer stands twice, as it was before the call and after it
+-- a pair call, in an order of the nine: each lent buffer stands twice, as it was before the call and after it
 abbrev pub PairCall : List Offset → Setup → List ℕ → List ℕ → List ℕ → List ℕ → List ℕ → List ℕ → List ℕ → List ℕ → Paired → Type 0
 PairCall order S first second counts counts′ grey grey′ words words′ r =
     PairLeft (pairNumber S first second counts grey words) (pairResult order S first second) counts counts′ grey grey′ words words′ r

@@ -36,7 +36,7 @@ colourless (v ∷ l) = v ∷ v ∷ v ∷ colourless l
 abbrev pub numbers : Aligned → List ℤ
 numbers r = r .offset .dx ∷ r .offset .dy ∷ map pos (r .counts)
 
--- "For s=0, T=0, P=50": the pair call's result for two rasters of 4 by 4
+-- "For s=0, T=0, P=50": the result for two rasters of 4 by 4 of the pair call that keeps Ward's order, as `bracket` does (by the least move the offset is (−1,0))
 abbrev pub printedResult : List ℕ → List ℕ → Aligned
 printedResult a b = pairResult wardOrder (toleranceSetup 4 4 0 0 50) (colourless a) (colourless b)
 

@@ -11,6 +11,7 @@ use Rattle.rules.specs.Limits.{maxGrey}
 use Rattle.rules.specs.Frames.{Frame, SameFrame}
 use Rattle.rules.specs.Greys.{greyFrame}
 use Rattle.rules.specs.Levels.{still, wardOrder, leastMoveOrder, Aligned}
+use Rattle.rules.specs.Refusals.{toleranceRefusal, pairRefusal}
 use Rattle.rules.specs.Calls.{toleranceSetup, pairResult}
 use Rattle.rules.specs.BlankSky.{corner}
 
@@ -30,7 +31,7 @@ zeros (suc n) = 0 ∷ zeros n
 abbrev pub blank : ℕ → Offset → Aligned
 blank s m = record { offset = m; counts = zeros (9 * (s + 1)) }
 
--- the results of the two pair calls for two equal flat frames: "not moved", and in the corner (proved in proofs/FlatRasterLaws.antt as `flat-frames`)
+-- the results of the two pair calls for two equal flat frames: not moved, and in the corner (proved in proofs/FlatRasterLaws.antt as `flat-frames`)
 abbrev pub FlatFrames : Type 0
 FlatFrames =
     (w h s tolerance percentile v : ℕ) (first second : List ℕ) → 1 ≤ percentile → percentile ≤ 99 → v ≤ maxGrey
@@ -38,19 +39,19 @@ FlatFrames =
     → (pairResult leastMoveOrder (toleranceSetup w h s tolerance percentile) first second ≡ blank s still)
     × (pairResult wardOrder (toleranceSetup w h s tolerance percentile) first second ≡ blank s (corner s))
 
--- the plate itself (proved there as `flat-plate`)
-abbrev pub plateCounts : List ℕ
-plateCounts = 0 ∷ 0 ∷ 0 ∷ 0 ∷ 0 ∷ 0 ∷ 0 ∷ 0 ∷ 0 ∷ 0 ∷ 0 ∷ 0 ∷ 0 ∷ 0 ∷ 0 ∷ 0 ∷ 0 ∷ 0 ∷ 0 ∷ 0 ∷ 0 ∷ 0 ∷ 0 ∷ 0 ∷ 0 ∷ 0 ∷ 0 ∷ []
+-- document 01's flat frames, 16 by 16 with s = 2: a call accepts them (in buffers of just the lengths needed, T = 0, P = 50), and what comes out (proved there as `flat-plate`)
+abbrev pub flatCounts : List ℕ
+flatCounts = 0 ∷ 0 ∷ 0 ∷ 0 ∷ 0 ∷ 0 ∷ 0 ∷ 0 ∷ 0 ∷ 0 ∷ 0 ∷ 0 ∷ 0 ∷ 0 ∷ 0 ∷ 0 ∷ 0 ∷ 0 ∷ 0 ∷ 0 ∷ 0 ∷ 0 ∷ 0 ∷ 0 ∷ 0 ∷ 0 ∷ 0 ∷ []
 
-abbrev pub plateUnmoved : Aligned
-plateUnmoved = record { offset = record { dx = pos 0; dy = pos 0 }; counts = plateCounts }
+abbrev pub flatUnmoved : Aligned
+flatUnmoved = record { offset = record { dx = pos 0; dy = pos 0 }; counts = flatCounts }
 
-abbrev pub plateInCorner : Aligned
-plateInCorner = record { offset = record { dx = negsuc 6; dy = negsuc 6 }; counts = plateCounts }
+abbrev pub flatInCorner : Aligned
+flatInCorner = record { offset = record { dx = negsuc 6; dy = negsuc 6 }; counts = flatCounts }
 
-abbrev pub FlatPlate : Type 0
-FlatPlate =
-    (tolerance percentile v : ℕ) (first second : List ℕ) → 1 ≤ percentile → percentile ≤ 99 → v ≤ maxGrey
-    → FlatRaster 16 16 v first → FlatRaster 16 16 v second
-    → (pairResult leastMoveOrder (toleranceSetup 16 16 2 tolerance percentile) first second ≡ plateUnmoved)
-    × (pairResult wardOrder (toleranceSetup 16 16 2 tolerance percentile) first second ≡ plateInCorner)
+pub record FlatPlate : Type 0 where
+  pub accepted : pairRefusal 16 16 2 (toleranceRefusal 0) 50 768 768 27 672 96 ≡ 0
+  pub answers : (tolerance percentile v : ℕ) (first second : List ℕ) → 1 ≤ percentile → percentile ≤ 99 → v ≤ maxGrey
+      → FlatRaster 16 16 v first → FlatRaster 16 16 v second
+      → (pairResult leastMoveOrder (toleranceSetup 16 16 2 tolerance percentile) first second ≡ flatUnmoved)
+      × (pairResult wardOrder (toleranceSetup 16 16 2 tolerance percentile) first second ≡ flatInCorner)

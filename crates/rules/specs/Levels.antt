@@ -51,6 +51,7 @@ leastMoveOrder =
     ∷ step (negsuc 0) (pos 0) ∷ step (pos 1) (pos 0) ∷ step (pos 0) (negsuc 0) ∷ step (pos 0) (pos 1)
     ∷ step (negsuc 0) (negsuc 0) ∷ step (negsuc 0) (pos 1) ∷ step (pos 1) (negsuc 0) ∷ step (pos 1) (pos 1) ∷ []
 
+-- the order of the calls that prefer the least move, and of those that keep Ward's
 abbrev pub orderOf : Order → List Offset
 orderOf Order.LeastMove = leastMoveOrder
 orderOf Order.Ward = wardOrder

@@ -1,4 +1,4 @@
--- Document 01 as definitions, pixel by pixel, one file a subject; docs/TRUST.md says which files a reader has to believe.
+-- Document 01, and document 02 so far, as definitions, pixel by pixel, one file a subject; docs/TRUST.md says which files a reader has to believe.
 pub mod Limits
 pub mod Sums
 pub mod Frames

@@ -1,4 +1,4 @@
-// The answers that the offered calls share. Document 01's rules themselves stand in specs/.
+// The answers and settings that the offered calls share. The documents' rules themselves stand in specs/.
 
 // The answer of a call that writes into a lent buffer.
 pub enum Written {
@@ -45,7 +45,7 @@ pub struct Setup {
     pub exclusion: Exclusion,
 }
 
-// The answer of the pair call: the offset that moves the second frame onto the first.
+// The answer of a pair call: the offset that moves the second frame onto the first.
 pub enum Paired {
     Moved(Offset),
     Refused(u32),

@@ -2,48 +2,24 @@
 use mathlib.Core.Path.{_≡_, refl, sym, ap, subst, _∙_}
 use mathlib.Core.List.{List}
 use Prim.Native.Nat.{ℕ, _+_, _*_, _-_}
-use native.Mathlib.Nat.{mul-comm}
 use native.Mathlib.Omega.{arith}
 use lib.IntN.{ℤ}
-use lib.ListN.{length, take, drop, getD}
-use lib.Seq.{take-at}
+use lib.ListN.{length}
 use Rattle.rules.specs.declared.Offset.{Offset}
 use Rattle.rules.specs.declared.Written.{Written}
 use Rattle.rules.specs.declared.Order.{Order}
 use Rattle.rules.specs.Answers.{written, bufferAfter}
 use Rattle.rules.specs.Accepted.{SeriesOk}
-use Rattle.rules.specs.Levels.{orderOf, Arrangement, arranged, ruleOf, Aligned, pair}
-use Rattle.rules.specs.Series.{Settings, greyOf, pairOf, frameOffset, answerOf, answerBy, seriesAnswer}
+use Rattle.rules.specs.Levels.{orderOf, Arrangement, arranged, ruleOf}
+use Rattle.rules.specs.Series.{Settings, seriesAnswer}
 use Rattle.rules.specs.Calls.{exclusionRefusal, seriesNumber, SeriesCall}
-use Rattle.rules.proofs.OffsetLaws.{length-offsets}
+use Rattle.rules.proofs.RefusalLaws.{buffer-part}
 use Rattle.rules.proofs.AlignmentLaws.{series-ok}
 use Rattle.reexposure.specs.Reexposure.{Bytes, Sound, Bounded, Alike}
 use Rattle.reexposure.proofs.Theorem.{demand3}
-use Rattle.rules.proofs.LevelLaws.{wardPlaces, leastMovePlaces, ward-arrangement, least-move-arrangement, counts-length}
-use Rattle.rules.proofs.SeriesLaws.{length-counts}
+use Rattle.rules.proofs.LevelLaws.{wardPlaces, leastMovePlaces, ward-arrangement, least-move-arrangement}
+use Rattle.rules.proofs.SeriesLaws.{offsets-size, counts-size}
 use Rattle.series_twice.specs.Demand.{packedAnswer, Given, Demanded}
-
-module _ (preferred : List Offset) (S : Settings) where
-  pairs : List ℕ → ℕ → Aligned
-  pairs F = pairOf (λ p. pair preferred (ruleOf (S .exclusion)) p (S .halvings) (S .w) (S .h)) (S .percentiles) (greyOf S F)
-
-  -- An answer has 2·N offsets and 9·(s+1)·(N−1) counts.
-  offsets-size : (F : List ℕ) → length (seriesAnswer preferred S F .offsets) ≡ 2 * S .frames
-  unfolding seriesAnswer answerBy answerOf pairs
-  offsets-size F = length-offsets (S .frames) (frameOffset (λ k. pairs F k .offset) (S .reference))
-
-  counts-size : (F : List ℕ) → length (seriesAnswer preferred S F .counts) ≡ 9 * (S .halvings + 1) * (S .frames - 1)
-  unfolding seriesAnswer answerBy answerOf pairOf pairs
-  counts-size F =
-      length-counts (9 * (S .halvings + 1)) (pairs F)
-      (λ j. counts-length preferred (ruleOf (S .exclusion)) (getD (S .percentiles) j 0) (S .halvings) (S .w) (S .h) (greyOf S F j) (greyOf S F (j + 1)))
-      (S .frames - 1)
-      ∙ mul-comm (S .frames - 1) (9 * (S .halvings + 1))
-
--- an accepted call's buffers begin with what it wrote
-written-part : {A : Type 0} (number n : ℕ) (out before after : List A) → number ≡ 0 → length out ≡ n → after ≡ bufferAfter number out before → take n after ≡ out
-written-part number n out before after z size e =
-    ap (take n) (e ∙ ap (λ (k : ℕ). bufferAfter k out before) z) ∙ take-at out (drop (length out) before) n size
 
 -- the packed answer of an accepted call is the pixel-by-pixel one
 packed-is : (preferred : List Offset) (S : Settings) (F : List ℕ) (number : ℕ) (offsets offsets′ : List ℤ) (counts counts′ : List ℕ) → number ≡ 0
@@ -51,8 +27,8 @@ packed-is : (preferred : List Offset) (S : Settings) (F : List ℕ) (number : �
     → counts′ ≡ bufferAfter number (seriesAnswer preferred S F .counts) counts
     → packedAnswer S offsets′ counts′ ≡ seriesAnswer preferred S F
 packed-is preferred S F number offsets offsets′ counts counts′ z a b =
-    let p = written-part number (2 * S .frames) (seriesAnswer preferred S F .offsets) offsets offsets′ z (offsets-size preferred S F) a in
-    let q = written-part number (9 * (S .halvings + 1) * (S .frames - 1)) (seriesAnswer preferred S F .counts) counts counts′ z (counts-size preferred S F) b in
+    let p = buffer-part number (2 * S .frames) (seriesAnswer preferred S F .offsets) offsets offsets′ z (offsets-size preferred S F) a in
+    let q = buffer-part number (9 * (S .halvings + 1) * (S .frames - 1)) (seriesAnswer preferred S F .counts) counts counts′ z (counts-size preferred S F) b in
     λ i. record { offsets = p i; counts = q i }
 
 -- an order of the nine, by its places
