@@ -16,11 +16,15 @@ struct Settings {
     int s, tolerance, percentile;
 };
 
-// What the library writes for a pair: the offset, and nine counts a level, coarsest first.
+// What the library writes for a pair: the offset, and nine counts a level, coarsest first, each with its compared number.
 struct Answer {
     Move offset;
-    std::vector<uint32_t> counts;
-    bool operator==(const Answer &other) const { return offset == other.offset && counts == other.counts; }
+    std::vector<uint32_t> counts, compared;
+    size_t finest; // where the candidate that the offset is stands in both, on the finest level
+    bool operator==(const Answer &other) const
+    {
+        return offset == other.offset && counts == other.counts && compared == other.compared;
+    }
 };
 
 // The library's two pair calls. Among a level's equal counts mtb_pair_ward takes the first in Ward's order, mtb_pair the

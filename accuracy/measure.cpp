@@ -33,15 +33,17 @@ std::string look(const SceneKind &kind, const Tone &tone, int noise)
 }
 
 // Aligns a pair by both of the library's calls. A line has the offsets (the true one, Ward's order, the least move,
-// OpenCV), then the counts by Ward's order.
+// OpenCV), the count and the compared number at Ward's and at the least move's, and all counts by Ward's order.
 void try_pair(const char *experiment, const std::string &look, const Settings &settings, const Pair &pair, Move theirs)
 {
     Answer ward = ward_pair(settings, pair.first, pair.second);
     Answer least_move = least_move_pair(settings, pair.first, pair.second);
-    std::printf("%s\t%d\t%s\t%d\t%d\t%d\t", experiment, settings.w, look.c_str(), settings.s, settings.tolerance,
-                settings.percentile);
+    std::printf("%s\t%d\t%d\t%s\t%d\t%d\t%d\t", experiment, settings.w, settings.h, look.c_str(), settings.s,
+                settings.tolerance, settings.percentile);
     for (Move move : {pair.truth, ward.offset, least_move.offset, theirs})
         std::printf("%d\t%d\t", move.dx, move.dy);
+    for (const Answer *answer : {&ward, &least_move})
+        std::printf("%u\t%u\t", answer->counts[answer->finest], answer->compared[answer->finest]);
     for (uint32_t count : ward.counts)
         std::printf("%u ", count);
     std::printf("\n");

@@ -19,8 +19,11 @@ STARS = SKY[1:]
 HAZE = "flat haze"
 CALLS_A_PAIR = 15  # five tolerances, three percentiles
 
-# Offsets: true, Ward's order (mtb_pair_ward), least move (mtb_pair), OpenCV; levels has the counts of mtb_pair_ward.
-Trial = collections.namedtuple("Trial", "w scene tone noise s T P truth ward least theirs levels")
+# Offsets: true, Ward's order (mtb_pair_ward), least move (mtb_pair), OpenCV; what was counted at Ward's and at the least
+# move's; levels has the counts of mtb_pair_ward.
+Trial = collections.namedtuple("Trial", "w h scene tone noise s T P truth ward least theirs at_ward at_least levels")
+# An answer's own count on the finest level, and the pixels that were compared for it.
+Counted = collections.namedtuple("Counted", "count compared")
 Reexposed = collections.namedtuple(
     "Reexposed", "scene curve merges noise T P same same_least same_offset before after theirs")
 
@@ -33,11 +36,13 @@ def read(path):
         if kind == "opencv":
             opencv = fields[0]
         elif kind in trials:
-            w, scene, tone, *numbers, counts = fields
-            noise, s, T, P, *moves = map(int, numbers)
+            w, h, scene, tone, *numbers, counts = fields
+            noise, s, T, P, *numbers = map(int, numbers)
+            *moves, at_ward, at_least = zip(numbers[::2], numbers[1::2])
             counts = [int(c) for c in counts.split()]
-            w, levels = int(w), [counts[i:i + 9] for i in range(0, len(counts), 9)]
-            trials[kind].append(Trial(w, scene, tone, noise, s, T, P, *zip(moves[::2], moves[1::2]), levels))
+            levels = [counts[i:i + 9] for i in range(0, len(counts), 9)]
+            trials[kind].append(Trial(int(w), int(h), scene, tone, noise, s, T, P, *moves, Counted(*at_ward),
+                                      Counted(*at_least), levels))
         else:
             reexposed.append(Reexposed(fields[0], fields[1], *map(int, fields[2:])))
     return opencv, trials, reexposed
@@ -59,6 +64,35 @@ def at_rim(trial):
     return reach(trial) in map(abs, trial.ward)
 
 
+def overlap(trial, move):
+    """The pixels that have a partner in the frame."""
+    return (trial.w - abs(move[0])) * (trial.h - abs(move[1]))
+
+
+def share(trial, counted):
+    """Compared pixels in percent of the frame's."""
+    return 100 * counted.compared / (trial.w * trial.h)
+
+
+def differing(trial):
+    """By mtb_pair the count in percent of the compared number."""
+    return 100 * trial.at_least.count / max(1, trial.at_least.compared)
+
+
+def below(trial, part):
+    """By mtb_pair less than 1/part of the frame's pixels were compared."""
+    return part * trial.at_least.compared < trial.w * trial.h
+
+
+def few(trials):
+    return sum(below(t, 16) for t in trials)
+
+
+def by_truth(trials):
+    """The right and the wrong answers of mtb_pair."""
+    return [t for t in trials if t.least == t.truth], [t for t in trials if t.least != t.truth]
+
+
 def tied(trial):
     """Some level's least count stands more than once: only then can the two orders differ."""
     return any(row.count(min(row)) > 1 for row in trial.levels)
@@ -71,6 +105,37 @@ def clear(trial, numerator=3, denominator=4):
         if least == second or denominator * least > numerator * largest:
             return False
     return True
+
+
+# What might warn of an answer of mtb_pair. (Its rows are clear where those of mtb_pair_ward are: up to the first tie they are
+# the same.)
+WARNINGS = (
+    *((f"less than 1/{part} of w·h was compared", lambda t, part=part: below(t, part)) for part in (16, 8, 4, 2)),
+    ("less than 1/16 of the overlap", lambda t: 16 * t.at_least.compared < overlap(t, t.least)),
+    ("the count is 1/4 of the compared number or more", lambda t: 4 * t.at_least.count >= t.at_least.compared > 0),
+    ("the count is 1/16 of it or more", lambda t: 16 * t.at_least.count >= t.at_least.compared > 0),
+    ("the rule of thumb is not met", lambda t: not clear(t)),
+    ("it is not met, or less than 1/16 of w·h", lambda t: not clear(t) or below(t, 16)),
+)
+
+
+def percent(part, whole):
+    return f"{100 * part / whole:.1f}" if whole else "–"
+
+
+def share_cells(answers):
+    """Of (trial, Counted) each: how many, and least, quartiles and most of the share."""
+    shares = [share(*answer) for answer in answers]
+    figures = min(shares), *statistics.quantiles(shares, method="inclusive"), max(shares)
+    return [len(shares), *(f"{v:.1f}" for v in figures)]
+
+
+def warning_cells(warns, right, wrong):
+    """How many answers are warned of; parts of the wrong and of the right ones; how many are wrong then, and right if not."""
+    of_right, of_wrong = sum(map(warns, right)), sum(map(warns, wrong))
+    warned, kept = of_right + of_wrong, len(right) - of_right
+    return [warned, percent(of_wrong, len(wrong)), percent(of_right, len(right)), percent(of_wrong, warned),
+            percent(kept, len(right) + len(wrong) - warned)]
 
 
 def markdown(head, rows):
@@ -217,6 +282,59 @@ class Report:
         self.parts["rule told"] = f"{100 * (right + caught) / len(self.trials):.0f}"
         self.parts["rule caught"] = f"{100 * caught / (caught + near + far):.1f}"
 
+    def shares(self):
+        """The share compared at right and at wrong answers. What the definitions say of compared numbers must hold."""
+        for t in self.trials + self.beyond + self.unrelated:
+            for move, at in ((t.ward, t.at_ward), (t.least, t.at_least)):
+                if not at.count <= at.compared <= overlap(t, move):
+                    sys.exit(f"accuracy: {at.count} of {at.compared} compared pixels differ, {overlap(t, move)} overlap")
+        rows = []
+        for call, answer in (("mtb_pair", lambda t: (t.least, t.at_least)), ("mtb_pair_ward", lambda t: (t.ward, t.at_ward))):
+            answers = [(t, *answer(t)) for t in self.trials]
+            for name, right in (("right", True), ("wrong", False)):
+                some = ((t, at) for t, move, at in answers if (move == t.truth) == right)
+                rows.append([f"{name}, by `{call}`", *share_cells(some)])
+        for name, trials in (("true move out of reach", self.beyond), ("another scene", self.unrelated)):
+            rows.append([f"{name}, by `mtb_pair`", *share_cells((t, t.at_least) for t in trials)])
+        self.parts["shares"] = markdown(
+            ["answers", "number", "least", "lower quartile", "median", "upper quartile", "most"], rows)
+
+    def warnings(self):
+        """How the share compared, and other signs, tell right answers of mtb_pair from wrong ones."""
+        right, wrong = by_truth(self.trials)
+        self.parts["warnings"] = markdown(
+            ["warned of where", "answers", "% of the wrong ones", "% of the right ones", "% wrong among them",
+             "% right among the others"], [[name, *warning_cells(warns, right, wrong)] for name, warns in WARNINGS])
+        rows = []
+        for key in (lambda t: f"T = {t.T}", lambda t: t.scene):
+            for v in values(self.trials, key):
+                groups = by_truth([t for t in self.trials if key(t) == v])
+                rows.append([v, *(cell for some in groups for cell in (len(some), percent(few(some), len(some))))])
+        self.parts["warnings by"] = markdown(["", "right", "% of them below 1/16", "wrong", "% of them below 1/16"], rows)
+
+    def few_or_many(self):
+        """What the text says of them."""
+        right, wrong = by_truth(self.trials)
+        many = by_truth([t for t in self.trials if not below(t, 2)])
+        stars = [t for t in right if t.scene in STARS]
+        noise = [share(t, t.at_least) for t in self.trials if (t.scene, t.noise, t.T) == (HAZE, 4, 0)]
+        self.parts.update({
+            "wrong": percent(len(wrong), len(self.trials)),
+            "few wrong": percent(few(wrong), few(self.trials)),
+            "few caught": percent(few(wrong), len(wrong)),
+            "many wrong": percent(len(many[1]), len(many[0]) + len(many[1])),
+            "few right": few(right),
+            "few stars": few(stars),
+            "few clipped": few(t for t in stars if t.tone == "both ends"),
+            "part right": f"{statistics.median(map(differing, right)):.1f}",
+            "part wrong": f"{statistics.median(map(differing, wrong)):.1f}",
+            "noisy haze": f"{statistics.median(noise):.0f}",
+            "strangers": f"{statistics.median(share(t, t.at_least) for t in self.unrelated):.0f}",
+            "clear wrong": sum(map(clear, wrong)),
+            "clear few wrong": few(filter(clear, wrong)),
+            "clear few right": few(filter(clear, right)),
+        })
+
     def hopeless(self):
         """Pairs without a right answer, and how many of them have clear rows all the same."""
         rows = []
@@ -274,7 +392,7 @@ class Report:
 
     def examples(self):
         def wanted(scene, tone, noise, T, right):
-            return lambda t: (t[:7] == (640, scene, tone or t.tone, noise, 3, T, 50) and (t.ward == t.truth) == right
+            return lambda t: (t[:8] == (640, 480, scene, tone or t.tone, noise, 3, T, 50) and (t.ward == t.truth) == right
                               and clear(t) == right and (right or off(t.ward, t.truth) > 1))
         self.example("example clear", wanted("leaves", "under, over", 2, 1, True))
         self.example("example tie", wanted("soft hills", "same", 0, 8, False))
@@ -286,7 +404,8 @@ class Report:
         self.parts["pairs"] = len(self.trials) // CALLS_A_PAIR
         self.parts["calls"] = len(self.trials)
         for part in (self.tolerances, self.halvings, self.tones, self.noises, self.percentiles, self.haze, self.weak,
-                     self.rule, self.hopeless, self.asking_again, self.reexposure, self.examples):
+                     self.rule, self.hopeless, self.asking_again, self.shares, self.warnings, self.few_or_many,
+                     self.reexposure, self.examples):
             part()
         return self.parts
 

@@ -1,7 +1,7 @@
 /* A careful C program of the same rules, written for speed: plain C for the same instruction set as the archive
  * (x86-64 with SSE2), loops that the compiler can take many bytes at a time, one pass for each step, bitmaps in
- * words of 64 pixels, shifted while they are compared, 1 bits added from the table of bytes. It tests no input.
- * (Bytes are read as words of a little-endian machine.) */
+ * words of 64 pixels, shifted while they are compared, differing and compared pixels counted in the same pass, 1 bits
+ * added from the table of bytes. It tests no input. (Bytes are read as words of a little-endian machine.) */
 #include "careful.h"
 
 #include <string.h>
@@ -10,6 +10,9 @@ enum { WORD_BITS = 64, CANDIDATES = 9, GREYS = 256, TWOS = 16 };
 
 /* A step is kept a function of its own, so that a profile tells it apart. */
 #define STEP __attribute__((noinline)) static
+
+/* A part of a step is no function of its own: it is made for the numbers that its caller wants, and no call is paid a word. */
+#define PART __attribute__((always_inline)) static inline
 
 /* The 1 bits of each byte. */
 #define ONES_2(n) n, n + 1, n + 1, n + 2
@@ -175,102 +178,142 @@ STEP void pack(const uint8_t *grey, struct size z, uint32_t percentile, uint32_t
         pack_row(grey + y * z.w, z.w, t, low, high, out.threshold + y * z.row, out.exclusion + y * z.row);
 }
 
-static uint32_t ones(uint64_t v)
+PART uint32_t ones(uint64_t v)
 {
     return ONES[v & 255] + ONES[v >> 8 & 255] + ONES[v >> 16 & 255] + ONES[v >> 24 & 255] + ONES[v >> 32 & 255]
            + ONES[v >> 40 & 255] + ONES[v >> 48 & 255] + ONES[v >> 56];
 }
 
-/* The differing pixels of one word: kept by both exclusion words, threshold bits unequal. */
-static uint32_t differing(uint64_t t1, uint64_t e1, uint64_t t2, uint64_t e2)
+/* What two frames' bitmaps tell: how many pixels differ, out of how many that were compared. */
+struct tally {
+    uint32_t differing, compared;
+};
+
+/* The program before Paper 2 counted the differing ones alone, and left `compared` 0. Who counts says by a constant which
+ * of the two it is. */
+enum numbers { DIFFERING, BOTH };
+
+/* Adds one word: pixels kept by both exclusion words are compared, those with unequal threshold bits differ. */
+PART void add_word(struct tally *sum, enum numbers wanted, uint64_t t1, uint64_t e1, uint64_t t2, uint64_t e2)
 {
     uint64_t kept = e1 & e2;
-    return kept == 0 ? 0 : ones((t1 ^ t2) & kept);
+    if (kept == 0)
+        return;
+    sum->differing += ones((t1 ^ t2) & kept);
+    if (wanted == BOTH)
+        sum->compared += ones(kept);
 }
 
 /* Words of a row against the words of another one, as they stand. */
-static uint32_t count_whole(const uint64_t *t1, const uint64_t *e1, const uint64_t *t2, const uint64_t *e2, size_t n)
+PART void add_whole(struct tally *sum, enum numbers wanted, const uint64_t *t1, const uint64_t *e1, const uint64_t *t2,
+                    const uint64_t *e2, size_t n)
 {
-    uint32_t count = 0;
     for (size_t k = 0; k < n; k++)
-        count += differing(t1[k], e1[k], t2[k], e2[k]);
-    return count;
+        add_word(sum, wanted, t1[k], e1[k], t2[k], e2[k]);
 }
 
 /* The same, where each word of the second row is put together from the top `up` bits of a word and the lower bits
  * of the next: n words of the first row, n + 1 of the second, 0 < up < 64. */
-static uint32_t count_joined(const uint64_t *t1, const uint64_t *e1, const uint64_t *t2, const uint64_t *e2, size_t n,
-                             unsigned up)
+PART void add_joined(struct tally *sum, enum numbers wanted, const uint64_t *t1, const uint64_t *e1, const uint64_t *t2,
+                     const uint64_t *e2, size_t n, unsigned up)
 {
-    uint32_t count = 0;
     uint64_t t = t2[0], e = e2[0];
     for (size_t k = 0; k < n; k++) {
         uint64_t next_t = t2[k + 1], next_e = e2[k + 1];
-        count += differing(t1[k], e1[k], t >> (WORD_BITS - up) | next_t << up, e >> (WORD_BITS - up) | next_e << up);
+        add_word(sum, wanted, t1[k], e1[k], t >> (WORD_BITS - up) | next_t << up, e >> (WORD_BITS - up) | next_e << up);
         t = next_t;
         e = next_e;
     }
-    return count;
 }
 
 /* A row against another one moved right by d. */
-static uint32_t count_right(const uint64_t *t1, const uint64_t *e1, const uint64_t *t2, const uint64_t *e2, size_t n,
-                            uint32_t d)
+PART void add_right(struct tally *sum, enum numbers wanted, const uint64_t *t1, const uint64_t *e1, const uint64_t *t2,
+                    const uint64_t *e2, size_t n, uint32_t d)
 {
     size_t q = d / WORD_BITS;
     unsigned r = d % WORD_BITS;
     if (q >= n)
-        return 0;
-    if (r == 0)
-        return count_whole(t1 + q, e1 + q, t2, e2, n - q);
-    return differing(t1[q], e1[q], t2[0] << r, e2[0] << r) + count_joined(t1 + q + 1, e1 + q + 1, t2, e2, n - q - 1, r);
+        return;
+    if (r == 0) {
+        add_whole(sum, wanted, t1 + q, e1 + q, t2, e2, n - q);
+        return;
+    }
+    add_word(sum, wanted, t1[q], e1[q], t2[0] << r, e2[0] << r);
+    add_joined(sum, wanted, t1 + q + 1, e1 + q + 1, t2, e2, n - q - 1, r);
 }
 
 /* A row against another one moved left by d. */
-static uint32_t count_left(const uint64_t *t1, const uint64_t *e1, const uint64_t *t2, const uint64_t *e2, size_t n,
-                           uint32_t d)
+PART void add_left(struct tally *sum, enum numbers wanted, const uint64_t *t1, const uint64_t *e1, const uint64_t *t2,
+                   const uint64_t *e2, size_t n, uint32_t d)
 {
     size_t q = d / WORD_BITS, last = n - q - 1;
     unsigned r = d % WORD_BITS;
     if (q >= n)
-        return 0;
-    if (r == 0)
-        return count_whole(t1, e1, t2 + q, e2 + q, n - q);
-    return count_joined(t1, e1, t2 + q, e2 + q, last, WORD_BITS - r)
-           + differing(t1[last], e1[last], t2[n - 1] >> r, e2[n - 1] >> r);
+        return;
+    if (r == 0) {
+        add_whole(sum, wanted, t1, e1, t2 + q, e2 + q, n - q);
+        return;
+    }
+    add_joined(sum, wanted, t1, e1, t2 + q, e2 + q, last, WORD_BITS - r);
+    add_word(sum, wanted, t1[last], e1[last], t2[n - 1] >> r, e2[n - 1] >> r);
 }
 
-/* The difference count of two frames at an offset. */
-STEP uint32_t count_at(struct planes first, struct planes second, struct size z, struct offset o)
+/* Two frames at an offset. */
+PART struct tally tally_at(enum numbers wanted, struct planes first, struct planes second, struct size z, struct offset o)
 {
     int32_t top = o.dy > 0 ? o.dy : 0, end = o.dy < 0 ? (int32_t)z.h + o.dy : (int32_t)z.h;
-    uint32_t count = 0;
+    struct tally sum = {0, 0};
     for (int32_t y = top; y < end; y++) {
         size_t a = (size_t)y * z.row, b = (size_t)(y - o.dy) * z.row;
         const uint64_t *t1 = first.threshold + a, *e1 = first.exclusion + a;
         const uint64_t *t2 = second.threshold + b, *e2 = second.exclusion + b;
-        count += o.dx >= 0 ? count_right(t1, e1, t2, e2, z.row, (uint32_t)o.dx)
-                           : count_left(t1, e1, t2, e2, z.row, (uint32_t)-o.dx);
+        if (o.dx >= 0)
+            add_right(&sum, wanted, t1, e1, t2, e2, z.row, (uint32_t)o.dx);
+        else
+            add_left(&sum, wanted, t1, e1, t2, e2, z.row, (uint32_t)-o.dx);
     }
-    return count;
+    return sum;
 }
 
-uint32_t careful_difference(uint32_t w, uint32_t h, int32_t dx, int32_t dy, uint64_t *threshold1, uint64_t *exclusion1,
-                            uint64_t *threshold2, uint64_t *exclusion2)
+STEP struct tally count_both(struct planes first, struct planes second, struct size z, struct offset o)
+{
+    return tally_at(BOTH, first, second, z, o);
+}
+
+STEP struct tally count_differing(struct planes first, struct planes second, struct size z, struct offset o)
+{
+    return tally_at(DIFFERING, first, second, z, o);
+}
+
+/* The difference count of two frames at an offset and, where there is room for it, the compared number. */
+static void count_at(struct planes first, struct planes second, struct size z, struct offset o, uint32_t *count,
+                     uint32_t *compared)
+{
+    struct tally sum = compared == NULL ? count_differing(first, second, z, o) : count_both(first, second, z, o);
+    *count = sum.differing;
+    if (compared != NULL)
+        *compared = sum.compared;
+}
+
+void careful_difference(uint32_t w, uint32_t h, int32_t dx, int32_t dy, uint64_t *threshold1, uint64_t *exclusion1,
+                        uint64_t *threshold2, uint64_t *exclusion2, uint32_t *count, uint32_t *compared)
 {
     struct planes first = {threshold1, exclusion1}, second = {threshold2, exclusion2};
-    return count_at(first, second, size_of(w, h), (struct offset){dx, dy});
+    count_at(first, second, size_of(w, h), (struct offset){dx, dy}, count, compared);
 }
 
-/* The nine counts around a centre, and the first least. */
+/* What follows the first k numbers, where there are any. */
+static uint32_t *after(uint32_t *numbers, size_t k) { return numbers == NULL ? NULL : numbers + k; }
+
+/* The nine counts around a centre, the compared numbers where there is room for them, and the first least count. */
 static struct offset choose(struct planes first, struct planes second, struct size z, struct offset centre,
-                            uint32_t counts[CANDIDATES])
+                            uint32_t *counts, uint32_t *compared)
 {
     struct offset best = centre;
     uint32_t least_count = UINT32_MAX;
     for (int k = 0; k < CANDIDATES; k++) {
         struct offset o = {centre.dx + k / 3 - 1, centre.dy + k % 3 - 1};
-        counts[k] = count_at(first, second, z, o);
+        count_at(first, second, z, o, &counts[k], after(compared, (size_t)k));
         if (counts[k] < least_count) {
             least_count = counts[k];
             best = o;
@@ -300,7 +343,8 @@ static void build_levels(const uint8_t *raster, uint32_t w, uint32_t h, uint32_t
 
 /* Two frames' levels, from the coarsest to the finest. */
 static struct offset align(const uint8_t *first, const uint8_t *second, uint32_t w, uint32_t h, uint32_t s,
-                           uint32_t tolerance, uint32_t percentile, uint32_t *counts, uint64_t *words)
+                           uint32_t tolerance, uint32_t percentile, uint32_t *counts, uint32_t *compared,
+                           uint64_t *words)
 {
     struct offset o = {0, 0};
     for (uint32_t k = s + 1; k-- > 0;) {
@@ -310,19 +354,21 @@ static struct offset align(const uint8_t *first, const uint8_t *second, uint32_t
         struct offset centre = {2 * o.dx, 2 * o.dy};
         pack(first + at, z, percentile, tolerance, one);
         pack(second + at, z, percentile, tolerance, two);
-        o = choose(one, two, z, centre, counts);
+        o = choose(one, two, z, centre, counts, compared);
         counts += CANDIDATES;
+        compared = after(compared, CANDIDATES);
     }
     return o;
 }
 
 void careful_pair(uint32_t w, uint32_t h, uint32_t s, uint32_t tolerance, uint32_t percentile, const uint8_t *first,
-                  const uint8_t *second, int32_t *dx, int32_t *dy, uint32_t *counts, uint8_t *grey, uint64_t *words)
+                  const uint8_t *second, int32_t *dx, int32_t *dy, uint32_t *counts, uint32_t *compared, uint8_t *grey,
+                  uint64_t *words)
 {
     uint8_t *other = grey + level_pixels(w, h, s + 1);
     build_levels(first, w, h, s, grey);
     build_levels(second, w, h, s, other);
-    struct offset o = align(grey, other, w, h, s, tolerance, percentile, counts, words);
+    struct offset o = align(grey, other, w, h, s, tolerance, percentile, counts, compared, words);
     *dx = o.dx;
     *dy = o.dy;
 }
@@ -348,14 +394,15 @@ static void sum_about(uint32_t n, uint32_t r, int32_t *offsets)
 
 void careful_series(uint32_t w, uint32_t h, uint32_t s, uint32_t tolerance, uint32_t n, uint32_t r,
                     const uint32_t *percentiles, const uint8_t *rasters, int32_t *offsets, uint32_t *counts,
-                    uint8_t *grey, uint64_t *words)
+                    uint32_t *compared, uint8_t *grey, uint64_t *words)
 {
     uint8_t *levels[2] = {grey, grey + level_pixels(w, h, s + 1)}; /* of even and of odd frames: each built once */
     build_levels(rasters, w, h, s, levels[0]);
     for (uint32_t k = 1; k < n; k++) {
+        size_t at = (size_t)(k - 1) * CANDIDATES * (s + 1);
         build_levels(rasters + (size_t)k * 3 * w * h, w, h, s, levels[k % 2]);
         struct offset o = align(levels[(k - 1) % 2], levels[k % 2], w, h, s, tolerance, percentiles[k - 1],
-                                counts + (k - 1) * CANDIDATES * (s + 1), words);
+                                counts + at, after(compared, at), words);
         offsets[2 * k] = o.dx;
         offsets[2 * k + 1] = o.dy;
     }

@@ -25,18 +25,22 @@ struct memory {
     size_t grey_len, words_len;
 };
 
-/* Offsets from the first frame, dx before dy, and the counts, as the series call writes them. */
+/* Offsets from the first frame, dx before dy, the counts and the compared numbers, as the series call writes them. */
 struct answer {
     int32_t offsets[2 * MAX_FRAMES];
-    uint32_t counts[CANDIDATES * MAX_LEVELS * MAX_FRAMES];
+    uint32_t counts[CANDIDATES * MAX_LEVELS * MAX_FRAMES], compared[CANDIDATES * MAX_LEVELS * MAX_FRAMES];
 };
 
 typedef void aligner(const struct job *, const struct memory *, struct answer *);
 
+/* What of a contestant's answer has to be the library's: more than nothing where it follows documents 01 and 02 and
+ * Ward's order. */
+enum agreement { NOTHING, OFFSETS_AND_COUNTS, ALL_NUMBERS };
+
 struct contestant {
     const char *name;
     aligner *run;
-    int compared; /* it follows document 01 and Ward's order, so its offsets and counts are compared */
+    enum agreement agreement;
 };
 
 extern const struct contestant contestants[];

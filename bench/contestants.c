@@ -19,12 +19,12 @@ static void call_library(__typeof__(mtb_pair) *pair, __typeof__(mtb_series) *ser
     if (j->n == 2) {
         a->offsets[0] = a->offsets[1] = 0;
         refused = pair(j->w, j->h, j->s, j->tolerance, j->percentiles[0], j->rasters, len, j->rasters + len, len,
-                       &a->offsets[2], &a->offsets[3], a->counts, CANDIDATES * levels, m->grey, m->grey_len,
-                       m->words, m->words_len);
+                       &a->offsets[2], &a->offsets[3], a->counts, CANDIDATES * levels, a->compared,
+                       CANDIDATES * levels, m->grey, m->grey_len, m->words, m->words_len);
     } else {
         refused = series(j->w, j->h, j->s, j->tolerance, j->n, 0, j->percentiles, j->n - 1, j->rasters, j->n * len,
-                         a->offsets, 2 * j->n, a->counts, CANDIDATES * levels * (j->n - 1), m->grey, m->grey_len,
-                         m->words, m->words_len);
+                         a->offsets, 2 * j->n, a->counts, CANDIDATES * levels * (j->n - 1), a->compared,
+                         CANDIDATES * levels * (j->n - 1), m->grey, m->grey_len, m->words, m->words_len);
     }
     if (refused != 0) {
         fprintf(stderr, "the library refused %u by %u, s = %u: number %u\n", j->w, j->h, j->s, refused);
@@ -44,16 +44,27 @@ static void least_move(const struct job *j, const struct memory *m, struct answe
     call_library(mtb_pair, mtb_series, j, m, a);
 }
 
-static void careful(const struct job *j, const struct memory *m, struct answer *a)
+/* The careful C program, which counts compared pixels where it is told to write them. */
+static void call_careful(const struct job *j, const struct memory *m, struct answer *a, uint32_t *compared)
 {
     if (j->n == 2) {
         a->offsets[0] = a->offsets[1] = 0;
         careful_pair(j->w, j->h, j->s, j->tolerance, j->percentiles[0], j->rasters, j->rasters + raster_len(j),
-                     &a->offsets[2], &a->offsets[3], a->counts, m->grey, m->words);
+                     &a->offsets[2], &a->offsets[3], a->counts, compared, m->grey, m->words);
     } else {
         careful_series(j->w, j->h, j->s, j->tolerance, j->n, 0, j->percentiles, j->rasters, a->offsets, a->counts,
-                       m->grey, m->words);
+                       compared, m->grey, m->words);
     }
+}
+
+static void careful(const struct job *j, const struct memory *m, struct answer *a)
+{
+    call_careful(j, m, a, a->compared);
+}
+
+static void only_differences(const struct job *j, const struct memory *m, struct answer *a)
+{
+    call_careful(j, m, a, NULL);
 }
 
 /* The floor: every byte of the rasters read and written once. */
@@ -64,12 +75,13 @@ static void copy(const struct job *j, const struct memory *m, struct answer *a)
 }
 
 const struct contestant contestants[] = {
-    {"library", library, 1},
-    {"least move", least_move, 0},
-    {"careful C", careful, 1},
+    {"library", library, ALL_NUMBERS},
+    {"least move", least_move, NOTHING},
+    {"careful C", careful, ALL_NUMBERS},
+    {"only differences", only_differences, OFFSETS_AND_COUNTS},
 #ifdef WITH_OPENCV
-    {"OpenCV", opencv_align, 0},
+    {"OpenCV", opencv_align, NOTHING},
 #endif
-    {"memcpy", copy, 0},
+    {"memcpy", copy, NOTHING},
 };
 const size_t contestants_len = sizeof contestants / sizeof contestants[0];

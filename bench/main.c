@@ -18,7 +18,7 @@
 #include "scene.h"
 #include "timing.h"
 
-enum { SEED = 2024, TOLERANCE = 4, PERCENTILE = 50, LEAST_TURNS = 15, MAX_CONTESTANTS = 5 };
+enum { SEED = 2024, TOLERANCE = 4, PERCENTILE = 50, LEAST_TURNS = 15, MAX_CONTESTANTS = 6 };
 
 /* What a timed job shows: the made scene, or random bytes, in which no word of a bitmap is empty. */
 enum content { SCENE, NOISE };
@@ -65,35 +65,33 @@ static uint8_t *frames(const struct job *j, enum content content, uint32_t seed)
     return rasters;
 }
 
-static int same(const struct job *j, const struct answer *a, const struct answer *b)
+/* Whether two answers have the same numbers, as far as they are to agree. */
+static int same(const struct job *j, const struct answer *a, const struct answer *b, enum agreement agreement)
 {
-    return memcmp(a->offsets, b->offsets, 2 * j->n * sizeof a->offsets[0]) == 0
-           && memcmp(a->counts, b->counts, CANDIDATES * (j->s + 1) * (j->n - 1) * sizeof a->counts[0]) == 0;
+    size_t counts = CANDIDATES * (j->s + 1) * (j->n - 1) * sizeof a->counts[0];
+    if (agreement >= OFFSETS_AND_COUNTS
+        && (memcmp(a->offsets, b->offsets, 2 * j->n * sizeof a->offsets[0]) != 0
+            || memcmp(a->counts, b->counts, counts) != 0))
+        return 0;
+    return agreement < ALL_NUMBERS || memcmp(a->compared, b->compared, counts) == 0;
 }
 
-/* Runs every contestant once, which also warms caches, and compares those that are to agree with the first. */
-static void compare(const struct job *j, const struct memory *m, struct answer answers[])
+/* Runs the contestants that have to agree in so much or more, and compares their answers with the first one's. */
+static void compare(const struct job *j, const struct memory *m, struct answer answers[], enum agreement least)
 {
     for (size_t c = 0; c < contestants_len; c++) {
+        if (contestants[c].agreement < least)
+            continue;
         memset(&answers[c], 0, sizeof answers[c]);
         contestants[c].run(j, m, &answers[c]);
-        if (contestants[c].compared && !same(j, &answers[0], &answers[c])) {
+        if (!same(j, &answers[0], &answers[c], contestants[c].agreement)) {
             fprintf(stderr, "%s: %u by %u, s = %u, T = %u\n", contestants[c].name, j->w, j->h, j->s, j->tolerance);
-            fail("offsets or counts differ from the library's");
+            fail("offsets, counts or compared numbers differ from the library's");
         }
     }
 }
 
 /* ---- agree ---- */
-
-static const struct contestant *contestant_named(const char *name)
-{
-    for (size_t c = 0; c < contestants_len; c++)
-        if (strcmp(contestants[c].name, name) == 0)
-            return &contestants[c];
-    fail("no contestant of that name");
-    return NULL;
-}
 
 /* A random job: any s, a side from the least that s allows up, two to five frames. */
 static struct job random_job(uint32_t *state)
@@ -110,18 +108,14 @@ static struct job random_job(uint32_t *state)
 
 static void agree(uint32_t jobs)
 {
-    const struct contestant *library = contestant_named("library"), *careful = contestant_named("careful C");
+    static struct answer answers[MAX_CONTESTANTS];
     uint32_t state = SEED, pairs = 0;
     for (uint32_t i = 0; i < jobs; i++) {
         struct job j = random_job(&state);
         struct memory m = lend(&j);
         uint8_t *rasters = frames(&j, scene_random(&state) % 4 ? SCENE : NOISE, scene_random(&state));
-        struct answer a = {0}, b = {0};
         j.rasters = rasters;
-        library->run(&j, &m, &a);
-        careful->run(&j, &m, &b);
-        if (!same(&j, &a, &b))
-            fail("library and careful C differ on a random job");
+        compare(&j, &m, answers, OFFSETS_AND_COUNTS);
         pairs += j.n - 1;
         free(rasters);
         give_back(&m);
@@ -199,7 +193,7 @@ static void time_job(const char *kind, struct job j, enum content content)
     struct memory m = lend(&j);
     j.rasters = rasters;
     fprintf(stderr, "%s: %u by %u, s = %u, %u frames, %u turns\n", kind, j.w, j.h, j.s, j.n, turns);
-    compare(&j, &m, answers);
+    compare(&j, &m, answers, NOTHING); /* every contestant once, which also warms caches */
     for (uint32_t turn = 0; turn < turns; turn++)
         take_turn(&j, &m, answers, times, turn, &state);
     for (size_t c = 0; c < contestants_len; c++)
@@ -224,6 +218,15 @@ static void time_all(void)
 }
 
 /* ---- once ---- */
+
+static const struct contestant *contestant_named(const char *name)
+{
+    for (size_t c = 0; c < contestants_len; c++)
+        if (strcmp(contestants[c].name, name) == 0)
+            return &contestants[c];
+    fail("no contestant of that name");
+    return NULL;
+}
 
 /* Callgrind counts between this function's entry and its return. */
 __attribute__((noinline)) void measured(const struct contestant *c, const struct job *j, const struct memory *m,

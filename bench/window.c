@@ -27,27 +27,43 @@ struct job {
     struct bitmaps first, second;
 };
 
-typedef uint32_t counter(const struct job *, int32_t dx, int32_t dy);
+/* What each move of the window gives. */
+struct numbers {
+    uint32_t counts[MOVES], compared[MOVES];
+};
 
-static uint32_t library(const struct job *j, int32_t dx, int32_t dy)
+/* Writes the numbers of move k. */
+typedef void counter(const struct job *, int32_t dx, int32_t dy, struct numbers *, size_t k);
+
+static void library(const struct job *j, int32_t dx, int32_t dy, struct numbers *n, size_t k)
 {
-    uint32_t count = 0;
     if (mtb_difference(j->w, j->h, dx, dy, j->first.threshold, j->len, j->first.exclusion, j->len, j->second.threshold,
-                       j->len, j->second.exclusion, j->len, &count) != 0)
+                       j->len, j->second.exclusion, j->len, &n->counts[k], &n->compared[k]) != 0)
         fail("the library refused a difference call");
-    return count;
 }
 
-static uint32_t careful(const struct job *j, int32_t dx, int32_t dy)
+/* The careful C program, which counts compared pixels where it is told to write them. */
+static void call_careful(const struct job *j, int32_t dx, int32_t dy, uint32_t *count, uint32_t *compared)
 {
-    return careful_difference(j->w, j->h, dx, dy, j->first.threshold, j->first.exclusion, j->second.threshold,
-                              j->second.exclusion);
+    careful_difference(j->w, j->h, dx, dy, j->first.threshold, j->first.exclusion, j->second.threshold,
+                       j->second.exclusion, count, compared);
+}
+
+static void careful(const struct job *j, int32_t dx, int32_t dy, struct numbers *n, size_t k)
+{
+    call_careful(j, dx, dy, &n->counts[k], &n->compared[k]);
+}
+
+static void only_differences(const struct job *j, int32_t dx, int32_t dy, struct numbers *n, size_t k)
+{
+    call_careful(j, dx, dy, &n->counts[k], NULL);
 }
 
 static const struct contestant {
     const char *name;
     counter *count;
-} contestants[] = {{"library", library}, {"careful C", careful}};
+    int both; /* it counts compared pixels too */
+} contestants[] = {{"library", library, 1}, {"careful C", careful, 1}, {"only differences", only_differences, 0}};
 
 enum { CONTESTANTS = sizeof contestants / sizeof contestants[0] };
 
@@ -76,28 +92,34 @@ static struct job job_of(uint32_t w, uint32_t h)
 }
 
 /* All moves of the window. Callgrind counts between this function's entry and its return. */
-__attribute__((noinline)) void measured(counter *count, const struct job *j, uint32_t counts[MOVES])
+__attribute__((noinline)) void measured(counter *count, const struct job *j, struct numbers *n)
 {
     for (int32_t k = 0; k < MOVES; k++)
-        counts[k] = count(j, k / SIDE - REACH, k % SIDE - REACH);
+        count(j, k / SIDE - REACH, k % SIDE - REACH, n, (size_t)k);
+}
+
+static int same(const struct numbers *a, const struct numbers *b, int both)
+{
+    return memcmp(a->counts, b->counts, sizeof a->counts) == 0
+           && (!both || memcmp(a->compared, b->compared, sizeof a->compared) == 0);
 }
 
 /* Contestants in turns; the one that begins changes with each turn. The first turn is not counted. */
 static void time_window(const struct job *j)
 {
-    static uint32_t counts[CONTESTANTS][MOVES];
+    static struct numbers numbers[CONTESTANTS];
     static uint64_t times[CONTESTANTS][MAX_TURNS];
     for (uint32_t turn = 0; turn <= TURNS; turn++)
         for (uint32_t k = 0; k < CONTESTANTS; k++) {
             uint32_t c = (turn + k) % CONTESTANTS;
             uint64_t start = cpu_ns();
-            measured(contestants[c].count, j, counts[c]);
+            measured(contestants[c].count, j, &numbers[c]);
             times[c][turn == 0 ? 0 : turn - 1] = cpu_ns() - start;
         }
     for (uint32_t c = 0; c < CONTESTANTS; c++) {
         struct spread t = spread_of(times[c], TURNS);
-        if (memcmp(counts[0], counts[c], sizeof counts[0]) != 0)
-            fail("counts differ from the library's");
+        if (!same(&numbers[0], &numbers[c], contestants[c].both))
+            fail("counts or compared numbers differ from the library's");
         printf("window\t%s\t%llu\t%llu\t%.4f\n", contestants[c].name, (unsigned long long)t.median,
                (unsigned long long)t.least, median_ratio(times[c], times[0], TURNS));
     }
@@ -105,10 +127,10 @@ static void time_window(const struct job *j)
 
 static void once(const struct job *j, const char *name)
 {
-    static uint32_t counts[MOVES];
+    static struct numbers numbers;
     for (uint32_t c = 0; c < CONTESTANTS; c++)
         if (strcmp(contestants[c].name, name) == 0)
-            measured(contestants[c].count, j, counts);
+            measured(contestants[c].count, j, &numbers);
 }
 
 static uint32_t number(const char *word) { return (uint32_t)strtoul(word, NULL, 10); }

@@ -56,20 +56,24 @@ head -c 1000 first.ppm >cut.ppm
 : >empty.ppm
 
 expect 0 '160 by 120 pixels, s = 3, T = 0, P = 50, r = 0
-    0     0  first.ppm
-    5    -3  second.ppm
-   -4     6  third.ppm
+   dx    dy  compared
+    0     0         -  first.ppm
+    5    -3    92.8 %  second.ppm
+   -4     6    86.0 %  third.ppm
 common area: 151 by 111, columns 5 to 155, rows 6 to 116' align first.ppm second.ppm third.ppm
 expect 0 '160 by 120 pixels, s = 4, T = 2, P = 83, r = 1
-   -5     3  first.ppm
-    0     0  second.ppm
-   -9     9  third.ppm
+   dx    dy  compared
+   -5     3         -  first.ppm
+    0     0    90.3 %  second.ppm
+   -9     9    68.6 %  third.ppm
 common area: 151 by 111, columns 0 to 150, rows 9 to 119' align -s 4 -t 2 -p 83 -r 1 first.ppm second.ppm third.ppm
 expect 0 '16 by 16 pixels, s = 1, T = 0, P = 50, r = 0
-    0     0  flat.ppm
+   dx    dy  compared
+    0     0         -  flat.ppm
 common area: 16 by 16, columns 0 to 15, rows 0 to 15' align flat.ppm
 expect 0 '200 by 200 pixels, s = 4, T = 0, P = 50, r = 0
-    0     0  larger.ppm
+   dx    dy  compared
+    0     0         -  larger.ppm
 common area: 200 by 200, columns 0 to 199, rows 0 to 199' align larger.ppm
 
 usage='usage: align_series [-s HALVINGS] [-t TOLERANCE] [-p PERCENTILE] [-r REFERENCE] FILE...'
@@ -106,18 +110,20 @@ set -- flat.ppm flat.ppm flat.ppm flat.ppm
 expect 1 'the series: refused (6): there are more than 16 frames' align "$@" "$@" "$@" "$@" flat.ppm
 expect 1 'the series: refused (7): the reference is none of the frames' align -r 4 "$@"
 expect 1 'the series: refused (8): the percentile is not 17, 50 or 83' align -p 51 "$@"
-# Flat frames stay where they are.
+# Flat frames stay where they are, and nothing of them was compared.
 expect 0 '16 by 16 pixels, s = 2, T = 0, P = 50, r = 0
-    0     0  flat.ppm
-    0     0  flat.ppm
-    0     0  flat.ppm
-    0     0  flat.ppm
+   dx    dy  compared
+    0     0         -  flat.ppm
+    0     0     0.0 %  flat.ppm
+    0     0     0.0 %  flat.ppm
+    0     0     0.0 %  flat.ppm
 common area: 16 by 16, columns 0 to 15, rows 0 to 15' align -s 2 -r 0 "$@"
 expect 1 '160 by 32 pixels, s = 3, T = 0, P = 50, r = 0
-    0     0  strip0.ppm
-    0    11  strip1.ppm
-    0    22  strip2.ppm
-    0    33  strip3.ppm
+   dx    dy  compared
+    0     0         -  strip0.ppm
+    0    11    64.5 %  strip1.ppm
+    0    22    64.3 %  strip2.ppm
+    0    33    64.0 %  strip3.ppm
 the common area: refused (13): the frames show no area in common' align -s 3 strip0.ppm strip1.ppm strip2.ppm strip3.ppm
 
 # Memory runs out; not under the sanitizers, which need much of it themselves.
@@ -127,11 +133,11 @@ rm large.ppm
 
 mkdir pictures full
 expect 0 'offset 5 -3
-difference-before: 4803 of 19200 pixels
-difference-after: 186 of 19200 pixels' pictures first.ppm second.ppm pictures
+difference-before: 4803 of 18839 compared pixels
+difference-after: 186 of 17820 compared pixels' pictures first.ppm second.ppm pictures
 expect 0 'offset 5 -3
-difference-before: 3543 of 19200 pixels
-difference-after: 0 of 19200 pixels' pictures -s 4 -t 4 -p 50 first.ppm second.ppm pictures
+difference-before: 3543 of 16115 compared pixels
+difference-after: 0 of 16268 compared pixels' pictures -s 4 -t 4 -p 50 first.ppm second.ppm pictures
 expect 0 'difference-after.ppm
 difference-before.ppm
 first-bits.ppm
@@ -142,8 +148,9 @@ second-bits.ppm' ls pictures
 white() { tail -c 57600 "$1" | od -An -v -tu1 -w3 | grep -c '255 255 255'; }
 expect 0 3543 white pictures/difference-before.ppm
 expect 0 '160 by 120 pixels, s = 3, T = 0, P = 50, r = 0
-    0     0  pictures/over-after.ppm
-    0     0  pictures/over-after.ppm
+   dx    dy  compared
+    0     0         -  pictures/over-after.ppm
+    0     0    99.0 %  pictures/over-after.ppm
 common area: 160 by 120, columns 0 to 159, rows 0 to 119' align pictures/over-after.ppm pictures/over-after.ppm
 
 usage='usage: pictures [-s HALVINGS] [-t TOLERANCE] [-p PERCENTILE] FIRST SECOND FOLDER'

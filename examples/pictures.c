@@ -69,11 +69,11 @@ static struct move align(const struct frame *first, const struct frame *second, 
     size_t grey_len = mtb_grey_needed(size->w, size->h, s), words_len = mtb_words_needed(size->w, size->h, s);
     uint8_t *grey = lend(grey_len, sizeof *grey);
     uint64_t *words = lend(words_len, sizeof *words);
-    uint32_t counts[MOST_COUNTS];
+    uint32_t counts[MOST_COUNTS], compared[MOST_COUNTS];
     struct move move;
     insist("the pair", mtb_pair(size->w, size->h, s, settings[TOLERANCE], settings[PERCENTILE], first->raster, size->bytes,
                                 second->raster, size->bytes, &move.dx, &move.dy, counts, MOST_COUNTS,
-                                grey, grey_len, words, words_len));
+                                compared, MOST_COUNTS, grey, grey_len, words, words_len));
     free(grey);
     free(words);
     return move;
@@ -132,9 +132,15 @@ static void paint_difference(const char *folder, const char *name, const struct 
                              const struct frame *first, const struct frame *second, struct move move)
 {
     uint64_t *bits = difference(first, second, size, move);
-    uint32_t total;
-    insist("total", mtb_total(size->w, size->h, bits, size->words, &total));
-    printf("%s: %" PRIu32 " of %zu pixels\n", name, total, size->pixels);
+    uint32_t count, compared, painted;
+    insist("difference", mtb_difference(size->w, size->h, move.dx, move.dy, first->thresholds, size->words,
+                                        first->exclusions, size->words, second->thresholds, size->words,
+                                        second->exclusions, size->words, &count, &compared));
+    insist("total", mtb_total(size->w, size->h, bits, size->words, &painted));
+    if (painted != count) {
+        fail(name, "the picture has another count");
+    }
+    printf("%s: %" PRIu32 " of %" PRIu32 " compared pixels\n", name, count, compared);
     paint_bits(folder, name, size, bits, NULL);
     free(bits);
 }

@@ -45,8 +45,8 @@
  *
  * STACK
  *   Bytes, with stacked arguments and return address:
- *     mtb_pair, mtb_pair_ward        5896 + 368*s, so 8840 at most     mtb_threshold    4160
- *     mtb_series, mtb_series_ward    6152 + 368*s, so 9096 at most     mtb_difference   1008
+ *     mtb_pair, mtb_pair_ward        6152 + 416*s, so 9480 at most     mtb_threshold    4160
+ *     mtb_series, mtb_series_ward    6408 + 416*s, so 9736 at most     mtb_difference   1040
  *     every other function: below 400
  *   Measured, not proved (tests/outside/run stack): each call was run on a painted stack, and the deepest changed
  *   byte was looked for, over frames from 1 by 1 to 4096 by 4096 with every s that they allow and
@@ -139,16 +139,19 @@ uint32_t mtb_total(uint32_t w, uint32_t h,
                    uint32_t *total);
 
 /*
- * The difference count of two frames with the second moved by (dx, dy): the number of pixels (x, y) of
- * the first whose partner (x - dx, y - dy) lies in the second, with both exclusion bits 1 and the
- * threshold bits unequal. Refusals: 2, 9.
+ * The difference count of two frames with the second moved by (dx, dy), and out of how many pixels.
+ * *compared: the number of pixels (x, y) of the first whose partner (x - dx, y - dy) lies in the
+ * second, with both exclusion bits 1. *count: the number of those whose threshold bits are unequal.
+ * So *count <= *compared <= (w - |dx|)*(h - |dy|), the pixels that overlap, where |dx| <= w and
+ * |dy| <= h; beyond, both are 0. *count / *compared is the share that disagrees; *compared may be 0, so
+ * look before you divide. Refusals: 2, 9.
  */
 uint32_t mtb_difference(uint32_t w, uint32_t h, int32_t dx, int32_t dy,
                         const uint64_t *threshold1, size_t threshold1_len,
                         const uint64_t *exclusion1, size_t exclusion1_len,
                         const uint64_t *threshold2, size_t threshold2_len,
                         const uint64_t *exclusion2, size_t exclusion2_len,
-                        uint32_t *count);
+                        uint32_t *count, uint32_t *compared);
 
 /* ---- Alignment ---- */
 
@@ -159,6 +162,9 @@ uint32_t mtb_difference(uint32_t w, uint32_t h, int32_t dx, int32_t dy,
  * answer of the level before, at first (0, 0). The move with the least count is the level's answer.
  * Among equal ones mtb_pair prefers the least step (i, j): (0,0), (-1,0), (1,0), (0,-1), (0,1), (-1,-1),
  * (-1,1), (1,-1), (1,1), so that blank sky, where all counts are equal, does not move the mount.
+ * compared: as many numbers in the same order, the compared numbers of these moves as mtb_difference
+ * tells them: counts[k] is out of compared[k] pixels of its level, 0 where all are left out, as in a flat
+ * frame. Refusal 10 looks at counts and compared alike.
  * grey, words: work memory, as long as mtb_grey_needed and mtb_words_needed tell, or longer; what it
  * holds afterwards means nothing. Refusals: 2, 3, 4, 5, 8, 9, 10, 11.
  */
@@ -167,6 +173,7 @@ uint32_t mtb_pair(uint32_t w, uint32_t h, uint32_t s, uint32_t tolerance, uint32
                   const uint8_t *second, size_t second_len,
                   int32_t *dx, int32_t *dy,
                   uint32_t *counts, size_t counts_len,
+                  uint32_t *compared, size_t compared_len,
                   uint8_t *grey, size_t grey_len,
                   uint64_t *words, size_t words_len);
 
@@ -175,14 +182,15 @@ uint32_t mtb_pair(uint32_t w, uint32_t h, uint32_t s, uint32_t tolerance, uint32
  * percentiles[0], frames 1 and 2 with percentiles[1], and so on. r is the frame that all offsets refer to, 0 to n-1.
  * percentiles: n-1 numbers. rasters: n*3*w*h bytes, one raster after another.
  * offsets: 2*n numbers, dx and dy of each frame: the move that brings it onto frame r, by the sum over
- * the pairs between; (0, 0) for frame r itself. counts: 9*(s+1)*(n-1) numbers, those of each pair as
- * mtb_pair tells them. grey, words: as for mtb_pair. Refusals: 2 to 11.
+ * the pairs between; (0, 0) for frame r itself. counts, compared: 9*(s+1)*(n-1) numbers each, those of
+ * each pair as mtb_pair tells them. grey, words: as for mtb_pair. Refusals: 2 to 11.
  */
 uint32_t mtb_series(uint32_t w, uint32_t h, uint32_t s, uint32_t tolerance, uint32_t n, uint32_t r,
                     const uint32_t *percentiles, size_t percentiles_len,
                     const uint8_t *rasters, size_t rasters_len,
                     int32_t *offsets, size_t offsets_len,
                     uint32_t *counts, size_t counts_len,
+                    uint32_t *compared, size_t compared_len,
                     uint8_t *grey, size_t grey_len,
                     uint64_t *words, size_t words_len);
 
@@ -197,6 +205,7 @@ uint32_t mtb_pair_ward(uint32_t w, uint32_t h, uint32_t s, uint32_t tolerance, u
                        const uint8_t *second, size_t second_len,
                        int32_t *dx, int32_t *dy,
                        uint32_t *counts, size_t counts_len,
+                       uint32_t *compared, size_t compared_len,
                        uint8_t *grey, size_t grey_len,
                        uint64_t *words, size_t words_len);
 
@@ -205,6 +214,7 @@ uint32_t mtb_series_ward(uint32_t w, uint32_t h, uint32_t s, uint32_t tolerance,
                          const uint8_t *rasters, size_t rasters_len,
                          int32_t *offsets, size_t offsets_len,
                          uint32_t *counts, size_t counts_len,
+                         uint32_t *compared, size_t compared_len,
                          uint8_t *grey, size_t grey_len,
                          uint64_t *words, size_t words_len);
 

@@ -42,7 +42,7 @@ static void fit_series(struct vector *v, size_t raster, size_t s)
     v->in[0].length = pairs;
     v->in[1].length = n * raster;
     v->out[0] = 2 * n;
-    v->out[1] = pairs * 9 * (s + 1);
+    v->out[1] = v->out[2] = pairs * 9 * (s + 1);
 }
 
 void fit_lengths(struct vector *v)
@@ -61,7 +61,7 @@ void fit_lengths(struct vector *v)
                 : v->call == CALL_P6_WRITE ? 9 + digits(w) + digits(h) + raster
                 : v->call == CALL_MOVED   ? raster
                                           : bitmap;
-    v->out[1] = bitmap;
+    v->out[1] = is_pair(v->call) ? v->out[0] : bitmap;
     fit_memory(v, w, h, s);
     if (is_series(v->call))
         fit_series(v, raster, s);
@@ -87,12 +87,22 @@ static uint64_t *lent_words(size_t count)
     return words;
 }
 
+static uint32_t *lent_numbers(size_t count, uint32_t each)
+{
+    uint32_t *numbers = memory(4 * count);
+    for (size_t i = 0; i < count; i++)
+        numbers[i] = each;
+    return numbers;
+}
+
 static uint32_t *lent_counts(size_t count)
 {
-    uint32_t *counts = memory(4 * count);
-    for (size_t i = 0; i < count; i++)
-        counts[i] = 0xC3C3C3C3u;
-    return counts;
+    return lent_numbers(count, 0xC3C3C3C3u);
+}
+
+static uint32_t *lent_compared(size_t count)
+{
+    return lent_numbers(count, 0xB4B4B4B4u);
 }
 
 static int32_t *lent_offsets(size_t count)
@@ -109,6 +119,16 @@ static void *hold(struct answer *a, int which, void *buffer, size_t bytes, bool 
     a->out_bytes[which] = bytes;
     a->whole[which] = whole;
     return buffer;
+}
+
+/* No count is above its compared number, or the run ends. */
+static void check_counts(const uint32_t *counts, const uint32_t *compared, size_t count)
+{
+    for (size_t i = 0; i < count; i++)
+        if (counts[i] > compared[i]) {
+            fprintf(stderr, "a count of %u out of %u\n", (unsigned)counts[i], (unsigned)compared[i]);
+            abort();
+        }
 }
 
 /* ---- A function a call ---- */
@@ -154,15 +174,20 @@ static void answer_total(const struct vector *v, struct answer *a)
 static void answer_difference(const struct vector *v, struct answer *a)
 {
     a->refusal = ref_difference(v->w, v->h, v->dx, v->dy, v->in[0].data, v->in[0].length, v->in[1].data, v->in[1].length,
-                                v->in[2].data, v->in[2].length, v->in[3].data, v->in[3].length, &a->values[0]);
+                                v->in[2].data, v->in[2].length, v->in[3].data, v->in[3].length, &a->values[0],
+                                &a->values[1]);
+    check_counts(&a->values[0], &a->values[1], 1);
 }
 
 static void ask_pair(__typeof__(ref_pair) *pair, const struct vector *v, struct answer *a)
 {
     int32_t dx = 0, dy = 0;
     uint32_t *counts = hold(a, 0, lent_counts(v->out[0]), 4 * v->out[0], true);
+    uint32_t *compared = hold(a, 1, lent_compared(v->out[1]), 4 * v->out[1], true);
     a->refusal = pair(v->w, v->h, v->s, v->tolerance, v->percentile, v->in[0].data, v->in[0].length, v->in[1].data,
-                      v->in[1].length, &dx, &dy, counts, v->out[0], NULL, v->grey, NULL, v->words);
+                      v->in[1].length, &dx, &dy, counts, v->out[0], compared, v->out[1], NULL, v->grey, NULL, v->words);
+    if (a->refusal == 0)
+        check_counts(counts, compared, 9 * ((size_t)v->s + 1));
     a->values[0] = (uint32_t)dx;
     a->values[1] = (uint32_t)dy;
 }
@@ -181,8 +206,12 @@ static void ask_series(__typeof__(ref_series) *series, const struct vector *v, s
 {
     int32_t *offsets = hold(a, 0, lent_offsets(v->out[0]), 4 * v->out[0], true);
     uint32_t *counts = hold(a, 1, lent_counts(v->out[1]), 4 * v->out[1], true);
+    uint32_t *compared = hold(a, 2, lent_compared(v->out[2]), 4 * v->out[2], true);
     a->refusal = series(v->w, v->h, v->s, v->tolerance, v->n, v->r, v->in[0].data, v->in[0].length, v->in[1].data,
-                        v->in[1].length, offsets, v->out[0], counts, v->out[1], NULL, v->grey, NULL, v->words);
+                        v->in[1].length, offsets, v->out[0], counts, v->out[1], compared, v->out[2], NULL, v->grey, NULL,
+                        v->words);
+    if (a->refusal == 0)
+        check_counts(counts, compared, (v->n - 1) * 9 * ((size_t)v->s + 1));
 }
 
 static void answer_series(const struct vector *v, struct answer *a)
@@ -267,6 +296,6 @@ struct answer answer_of(const struct vector *v)
 
 void free_answer(struct answer answer)
 {
-    free(answer.out[0]);
-    free(answer.out[1]);
+    for (int i = 0; i < MOST_OUTPUTS; i++)
+        free(answer.out[i]);
 }

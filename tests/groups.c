@@ -46,6 +46,43 @@ int32_t side_move(uint32_t side, int which)
     return moves[which];
 }
 
+/* ---- Pixels that are not left out ---- */
+
+bool keeps(enum kept kind, uint32_t w, uint32_t h, uint32_t x, uint32_t y)
+{
+    const bool kept[KEPT_KINDS] = { true, false, x == 0, x == w - 1, y == 0, y == h - 1 };
+    return kept[kind];
+}
+
+/* How much of a side two frames share, one moved along it. */
+static uint32_t shared(uint32_t side, int64_t move)
+{
+    int64_t left = side - (move < 0 ? -move : move);
+    return left > 0 ? (uint32_t)left : 0;
+}
+
+/* Whether a column or row that was moved to this place lies in the frame. */
+static bool inside(uint32_t side, int64_t place)
+{
+    return 0 <= place && place < side;
+}
+
+uint32_t compared_at(enum kept kind, bool second, uint32_t w, uint32_t h, int64_t dx, int64_t dy)
+{
+    if (!second) /* moved the other way, as the second frame sees it */
+        return compared_at(kind, true, w, h, -dx, -dy);
+    uint32_t columns = shared(w, dx), rows = shared(h, dy);
+    const uint32_t numbers[KEPT_KINDS] = {
+        columns * rows,
+        0,
+        inside(w, dx) ? rows : 0,
+        inside(w, w - 1 + dx) ? rows : 0,
+        inside(h, dy) ? columns : 0,
+        inside(h, h - 1 + dy) ? columns : 0,
+    };
+    return numbers[kind];
+}
+
 /* ---- Breakers ---- */
 
 void break_size(struct vector *v)
@@ -85,11 +122,14 @@ void break_input(struct vector *v)
         slice->length = 0;
 }
 
+/* One output too short, and perhaps others. */
 void break_output(struct vector *v)
 {
-    bool two = v->call == CALL_BITMAPS || is_series(v->call);
-    size_t *length = &v->out[two ? random_below(2) : 0];
-    *length = *length > 0 && random_below(4) ? *length - 1 : 0;
+    uint32_t outputs = is_series(v->call) ? 3 : is_pair(v->call) || v->call == CALL_BITMAPS ? 2 : 1;
+    uint32_t chosen = random_below(outputs);
+    for (uint32_t i = 0; i < outputs; i++)
+        if (i == chosen || random_below(3) == 0)
+            v->out[i] = v->out[i] > 0 && random_below(4) ? v->out[i] - 1 : 0;
 }
 
 /* ---- Refusals in every order ---- */

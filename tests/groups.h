@@ -48,6 +48,12 @@ uint32_t one_of(const uint32_t *numbers, int count);
 enum { MOVES = 21 };
 int32_t side_move(uint32_t side, int which);
 
+/* Pixels that are not left out: all, none, or one edge, which shows where its frame was moved. */
+enum kept { KEPT_ALL, KEPT_NONE, KEPT_LEFT, KEPT_RIGHT, KEPT_TOP, KEPT_BOTTOM, KEPT_KINDS };
+bool keeps(enum kept kind, uint32_t w, uint32_t h, uint32_t x, uint32_t y);
+/* How many are compared at (dx,dy) where the first frame, or the second, keeps these and the other one all. */
+uint32_t compared_at(enum kept kind, bool second, uint32_t w, uint32_t h, int64_t dx, int64_t dy);
+
 /* Ends the run when something that must hold does not. */
 void must(bool holds, const char *what);
 

@@ -1,4 +1,5 @@
-/* Pairs and series in both orders: stored scenes, made frames, re-exposed brackets, ties, and the documents' worked examples. */
+/* Pairs and series in both orders: stored scenes, made frames, re-exposed brackets, ties, frames that leave out all or nothing, and
+ * the documents' worked examples. */
 #include "groups.h"
 
 #include <stdio.h>
@@ -40,11 +41,11 @@ static struct vector reordered(struct vector v)
 }
 
 /* Before the coarsest level nothing has been chosen. */
-static void must_begin_alike(const struct vector *v, const uint32_t *counts, const uint32_t *others)
+static void must_begin_alike(const struct vector *v, const uint32_t *numbers, const uint32_t *others)
 {
     size_t pair_counts = 9 * (size_t)(v->s + 1), pairs = is_pair(v->call) ? 1 : v->n - 1;
     for (size_t at = 0; at < pairs * pair_counts; at += pair_counts)
-        must(memcmp(counts + at, others + at, 9 * sizeof *counts) == 0, "the coarsest counts are the same in both orders");
+        must(memcmp(numbers + at, others + at, 9 * sizeof *numbers) == 0, "the coarsest numbers are the same in both orders");
 }
 
 /* Whether the other order gives other offsets. */
@@ -54,6 +55,7 @@ static bool order_decides(const struct vector *v)
     struct answer a = answer_of(v), b = answer_of(&other);
     bool series = is_series(v->call);
     must_begin_alike(v, a.out[series], b.out[series]);
+    must_begin_alike(v, a.out[series + 1], b.out[series + 1]);
     bool decides = series ? memcmp(a.out[0], b.out[0], a.out_bytes[0]) != 0 : memcmp(a.values, b.values, sizeof a.values) != 0;
     free_answer(a);
     free_answer(b);
@@ -150,20 +152,30 @@ static void pair_settings(void)
     free(rasters);
 }
 
-/* Output and work memory just short, just enough, and longer. */
+enum fit { SHORT, FITTING, LONGER, FITS };
+
+static size_t length_of(enum fit fit, size_t needed, size_t excess)
+{
+    return fit == SHORT ? needed - 1 : fit == FITTING ? needed : needed + excess;
+}
+
+/* Outputs and work memory just short, just enough, and longer, in every combination. */
 static void pair_lengths(void)
 {
     begin_ordered("pair: lent lengths");
     uint8_t *rasters = bracket_of(66, 17, 2, 2);
-    for (int counts = -1; counts <= 1; counts++)
-        for (int grey = -1; grey <= 1; grey++)
-            for (int words = -1; words <= 1; words++) {
-                struct vector v = bracket_pair(66, 17, 2, rasters);
-                v.out[0] = (size_t)((int)v.out[0] + counts * (counts > 0 ? 40 : 1));
-                v.grey = (size_t)((int)v.grey + grey * (grey > 0 ? 99 : 1));
-                v.words = (size_t)((int)v.words + words * (words > 0 ? 7 : 1));
-                add(&v);
-            }
+    for (enum fit counts = SHORT; counts < FITS; counts++)
+        for (enum fit compared = SHORT; compared < FITS; compared++)
+            for (enum fit grey = SHORT; grey < FITS; grey++)
+                for (enum fit words = SHORT; words < FITS; words++) {
+                    struct vector v = bracket_pair(66, 17, 2, rasters);
+                    v.out[0] = length_of(counts, v.out[0], 40);
+                    v.out[1] = length_of(compared, v.out[1], 31);
+                    v.grey = length_of(grey, v.grey, 99);
+                    v.words = length_of(words, v.words, 7);
+                    bool short_output = counts == SHORT || compared == SHORT, short_memory = grey == SHORT || words == SHORT;
+                    must(add(&v) == (short_output ? 10 : short_memory ? 11 : 0), "either output short is 10, then work memory 11");
+                }
     free(rasters);
 }
 
@@ -212,7 +224,7 @@ static void must_agree(const struct vector *v, const struct vector *other)
     struct answer a = answer_of(v), b = answer_of(other);
     must(a.refusal == 0 && b.refusal == 0, "a re-exposed bracket is accepted too");
     must(memcmp(a.values, b.values, sizeof a.values) == 0, "a re-exposed bracket has the same offset");
-    for (int i = 0; i < 2; i++)
+    for (int i = 0; i < MOST_OUTPUTS; i++)
         must(!a.out[i] || memcmp(a.out[i], b.out[i], a.out_bytes[i]) == 0, "a re-exposed bracket has the same numbers");
     free_answer(a);
     free_answer(b);
@@ -275,7 +287,7 @@ static void add_references(uint32_t w, uint32_t h, uint32_t s, uint32_t n, uint3
     for (uint32_t r = 0; r <= n; r++) {
         struct vector v = series_vector(w, h, s, n, r, percentiles, rasters);
         v.tolerance = tolerance;
-        v.out[r % 2] += random_below(5);
+        v.out[r % MOST_OUTPUTS] += random_below(5);
         add(&v);
     }
     free(rasters);
@@ -292,6 +304,25 @@ static void series_frames(void)
     add_references(7, 6, 0, 5, 1);
     add_references(16, 16, 2, 16, 0);
     add_references(9, 11, 1, 16, 2);
+}
+
+/* Outputs just short, just enough, and longer, in every combination. */
+static void series_lengths(void)
+{
+    static const uint32_t percentiles[] = { 50, 17 };
+    begin_ordered("series: lent lengths");
+    uint8_t *rasters = bracket_of(18, 17, 3, 2);
+    for (enum fit offsets = SHORT; offsets < FITS; offsets++)
+        for (enum fit counts = SHORT; counts < FITS; counts++)
+            for (enum fit compared = SHORT; compared < FITS; compared++) {
+                struct vector v = series_vector(18, 17, 2, 3, 1, percentiles, rasters);
+                v.out[0] = length_of(offsets, v.out[0], 5);
+                v.out[1] = length_of(counts, v.out[1], 40);
+                v.out[2] = length_of(compared, v.out[2], 31);
+                bool short_output = offsets == SHORT || counts == SHORT || compared == SHORT;
+                must(add(&v) == (short_output ? 10 : 0), "each output short is 10");
+            }
+    free(rasters);
 }
 
 static void break_frames(struct vector *v)
@@ -453,6 +484,82 @@ static void series_ties(void)
     must(decided >= 60, "the order decides 60 of the series that tie");
 }
 
+/* ---- Pixels compared ---- */
+
+enum { DARK = 0, MIDDLE = 100, BRIGHT = 200 };
+
+/* The middle is the threshold, and left out with every tolerance; dark and bright pixels are kept. A frame that keeps all has one in
+ * the middle all the same: a threshold is some pixel's value. A dark edge stays dark when the frame is halved. */
+static uint8_t kept_light(enum kept kind, uint32_t w, uint32_t h, uint32_t i)
+{
+    uint32_t half = w * h / 2, place = i * 7919 % (w * h); /* a prime: every place once, without the rhythm of rows */
+    if (kind == KEPT_ALL)
+        return place < half - 1 ? DARK : place < half ? MIDDLE : BRIGHT;
+    return keeps(kind, w, h, i % w, i / w) ? DARK : MIDDLE;
+}
+
+/* Such frames of an even number of pixels, R = G = B, one raster after another. */
+static uint8_t *kept_frames(const enum kept *kinds, uint32_t w, uint32_t h, uint32_t n)
+{
+    uint32_t pixels = w * h;
+    uint8_t *rasters = malloc((size_t)3 * pixels * n);
+    for (uint32_t i = 0; i < n * pixels; i++)
+        memset(rasters + (size_t)3 * i, kept_light(kinds[i / pixels], w, h, i % pixels), 3);
+    return rasters;
+}
+
+/* Without halving: the nine compared numbers, but for the two pixels in the middle. */
+static void must_compare(const struct vector *v, enum kept kind, bool second)
+{
+    struct answer a = answer_of(v);
+    const uint32_t *compared = a.out[1];
+    for (int k = 0; k < 9; k++) {
+        uint32_t most = compared_at(kind, second, v->w, v->h, k / 3 - 1, k % 3 - 1);
+        must(compared[k] <= most && most <= compared[k] + 2, "the kept pixels with a partner are compared");
+    }
+    free_answer(a);
+}
+
+/* One of the frames keeps these pixels, the other all. */
+static void add_kept_pair(enum kept kind, bool second, uint32_t w, uint32_t h, uint32_t s, uint32_t tolerance)
+{
+    const enum kept kinds[] = { second ? KEPT_ALL : kind, second ? kind : KEPT_ALL };
+    uint8_t *rasters = kept_frames(kinds, w, h, 2);
+    struct vector v = bracket_pair(w, h, s, rasters);
+    v.tolerance = tolerance;
+    if (s == 0)
+        must_compare(&v, kind, second);
+    add(&v);
+    free(rasters);
+}
+
+static void pair_compared(void)
+{
+    static const uint32_t sizes[][3] = { { 8, 8, 0 }, { 65, 8, 0 }, { 9, 8, 1 }, { 16, 17, 2 } };
+    begin_ordered("pair: pixels compared");
+    for (int i = 0; i < COUNT_OF(sizes); i++)
+        for (enum kept kind = KEPT_ALL; kind < KEPT_KINDS; kind++)
+            for (int second = kind == KEPT_ALL; second < 2; second++)
+                for (uint32_t tolerance = 0; tolerance <= 64; tolerance += 64)
+                    add_kept_pair(kind, second, sizes[i][0], sizes[i][1], sizes[i][2], tolerance);
+}
+
+static void series_compared(void)
+{
+    static const uint32_t sizes[][3] = { { 8, 8, 0 }, { 65, 8, 1 }, { 16, 17, 2 } }, percentiles[] = { 50, 50, 50, 50, 50 };
+    static const enum kept kinds[] = { KEPT_ALL, KEPT_LEFT, KEPT_ALL, KEPT_BOTTOM, KEPT_NONE, KEPT_ALL };
+    begin_ordered("series: pixels compared");
+    for (int i = 0; i < COUNT_OF(sizes); i++)
+        for (uint32_t tolerance = 0; tolerance <= 64; tolerance += 64) {
+            uint32_t w = sizes[i][0], h = sizes[i][1], s = sizes[i][2];
+            uint8_t *rasters = kept_frames(kinds, w, h, COUNT_OF(kinds));
+            struct vector v = series_vector(w, h, s, COUNT_OF(kinds), 2, percentiles, rasters);
+            v.tolerance = tolerance;
+            add(&v);
+            free(rasters);
+        }
+}
+
 /* ---- Made frames ---- */
 
 /* A pair of overlapping parts of the made bytes: the second begins dy rows and dx pixels later. */
@@ -527,7 +634,8 @@ static void flat_example(void)
     static const uint32_t zero[27];
     uint32_t move = (uint32_t)order->flat_plate;
     must(a.refusal == 0 && a.values[0] == move && a.values[1] == move, "the flat plate's offset");
-    must(a.out_bytes[0] == sizeof zero && memcmp(a.out[0], zero, sizeof zero) == 0, "the flat plate: 27 counts of 0");
+    for (int i = 0; i < 2; i++)
+        must(a.out_bytes[i] == sizeof zero && memcmp(a.out[i], zero, sizeof zero) == 0, "the flat plate: 27 counts of 0, out of 0");
     free_answer(a);
     add(&v);
 }
@@ -554,7 +662,7 @@ static void one_frame_example(void)
     struct vector v = series_vector(4, 4, 0, 1, 0, NULL, noise);
     struct answer a = answer_of(&v);
     static const int32_t zero[2];
-    must(v.out[1] == 0 && memcmp(a.out[0], zero, sizeof zero) == 0, "N=1: offset (0,0), no counts");
+    must(v.out[1] == 0 && v.out[2] == 0 && memcmp(a.out[0], zero, sizeof zero) == 0, "N=1: offset (0,0), no counts");
     free_answer(a);
     add(&v);
 }
@@ -591,6 +699,7 @@ static void pair_groups_in_order(void)
     pair_re_exposed();
     pair_ties();
     ties_of_two(false);
+    pair_compared();
     made_pairs();
 }
 
@@ -598,10 +707,12 @@ static void series_groups_in_order(void)
 {
     series_examples();
     series_frames();
+    series_lengths();
     series_refusals();
     series_re_exposed();
     series_ties();
     ties_of_two(true);
+    series_compared();
     made_series();
 }
 

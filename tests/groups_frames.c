@@ -265,6 +265,57 @@ static void difference_groups(void)
     add_subsets(difference_vector(67, 3, 2, 1), breakers, COUNT_OF(breakers), 16);
 }
 
+enum { KEPT_ROWS = 4, KEPT_WORDS = 3 * KEPT_ROWS };
+
+/* An exclusion bitmap. All its bits past the width are 1: they have to be read as 0. */
+static void fill_kept(enum kept kind, uint32_t w, uint64_t bitmap[KEPT_WORDS])
+{
+    uint32_t words = (w + 63) / 64;
+    memset(bitmap, 0, KEPT_WORDS * sizeof *bitmap);
+    for (uint32_t y = 0; y < KEPT_ROWS; y++)
+        for (uint32_t x = 0; x < 64 * words; x++)
+            if (x >= w || keeps(kind, w, KEPT_ROWS, x, y))
+                bitmap[y * words + x / 64] |= (uint64_t)1 << x % 64;
+}
+
+/* One frame's bitmap keeps pixels of this kind, the other's all. In half of the cases all threshold bits are unequal. */
+static void add_kept(enum kept kind, bool second, uint32_t w, int32_t dx, int32_t dy)
+{
+    static uint64_t dark[KEPT_WORDS], bright[KEPT_WORDS], some[KEPT_WORDS], all[KEPT_WORDS];
+    struct vector v = difference_vector(w, KEPT_ROWS, dx, dy);
+    bool unequal = random_below(2);
+    memset(bright, 0xFF, sizeof bright);
+    fill_kept(kind, w, some);
+    fill_kept(KEPT_ALL, w, all);
+    v.in[1].data = second ? all : some;
+    v.in[3].data = second ? some : all;
+    if (unequal) {
+        v.in[0].data = bright;
+        v.in[2].data = dark;
+    }
+    struct answer a = answer_of(&v);
+    must(a.values[1] == compared_at(kind, second, w, KEPT_ROWS, dx, dy), "the kept pixels with a partner are compared");
+    must(!unequal || a.values[0] == a.values[1], "all of them differ where all threshold bits are unequal");
+    free_answer(a);
+    add(&v);
+}
+
+static void compared_group(void)
+{
+    static const uint32_t kept_widths[] = { 5, 64, 65, 130 };
+    begin_group("difference: pixels compared");
+    for (int i = 0; i < COUNT_OF(kept_widths); i++) {
+        int32_t w = (int32_t)kept_widths[i], h = KEPT_ROWS;
+        const int32_t moves[][2] = { { 0, 0 },     { 1, 0 }, { -1, 0 },        { 0, 1 },         { 0, -1 }, { w - 1, 1 - h },
+                                     { 1 - w, 2 }, { w, 0 }, { INT32_MIN, 0 }, { 0, INT32_MAX }, { 1, -h }, { 63, 1 },
+                                     { -64, -1 } };
+        for (int m = 0; m < COUNT_OF(moves); m++)
+            for (enum kept kind = KEPT_ALL; kind < KEPT_KINDS; kind++)
+                for (int second = kind == KEPT_ALL; second < 2; second++)
+                    add_kept(kind, second, kept_widths[i], moves[m][0], moves[m][1]);
+    }
+}
+
 /* ---- Document 01's worked examples ---- */
 
 /* "Shift by w or more, or by the lowest signed number: all 0." */
@@ -301,4 +352,5 @@ void bitmap_groups(uint64_t seed)
     shift_groups();
     total_groups();
     difference_groups();
+    compared_group();
 }

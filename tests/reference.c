@@ -1,4 +1,4 @@
-/* Document 01 and Paper 1 of document 02, pixel by pixel. Sentences in quotation marks are the documents'. */
+/* Document 01 and Papers 1 and 2 of document 02, pixel by pixel. Sentences in quotation marks are the documents'. */
 #include "reference.h"
 
 #include <stdio.h>
@@ -38,6 +38,16 @@ struct offset {
     int64_t dx, dy;
 };
 
+/* "The difference count now also gives the compared number". */
+struct tally {
+    uint32_t count, compared;
+};
+
+/* Where "Pair and series, new order and kept, write these numbers beside the counts, in the same order". */
+struct tallies {
+    uint32_t *counts, *compared;
+};
+
 static void *memory(size_t bytes)
 {
     void *new = malloc(bytes ? bytes : 1);
@@ -75,7 +85,7 @@ static size_t bitmap_words(uint32_t w, uint32_t h)
     return (size_t)row_words(w) * h;
 }
 
-/* "The counts are given as 9·(s+1) 32-bit numbers" */
+/* "The counts are given as 9·(s+1) 32-bit numbers"; the compared numbers "into a further buffer of the same length" */
 static size_t pair_counts(uint32_t s)
 {
     return (size_t)CANDIDATES * (s + 1);
@@ -268,21 +278,32 @@ static struct bits bits_of_words(uint32_t w, uint32_t h, const uint64_t *thresho
     return bits;
 }
 
+/* "both exclusion bits 1" */
+static bool both_kept(const struct bits *first, size_t i, const struct bits *second, size_t j)
+{
+    return first->exclusion[i] && second->exclusion[j];
+}
+
 /* "both exclusion bits 1 and the threshold bits unequal" */
 static bool differ(const struct bits *first, size_t i, const struct bits *second, size_t j)
 {
-    return first->exclusion[i] && second->exclusion[j] && first->threshold[i] != second->threshold[j];
+    return both_kept(first, i, second, j) && first->threshold[i] != second->threshold[j];
 }
 
-/* "Difference count at (dx,dy): pixels (x,y) whose partner (x−dx, y−dy) in the second frame lies in it, with …" */
-static uint32_t difference_count(const struct bits *first, const struct bits *second, struct offset by)
+/* "Difference count at (dx,dy): pixels (x,y) whose partner (x−dx, y−dy) in the second frame lies in it, with …"; "the compared
+ * number: pixels with a partner in the frame and both exclusion bits 1" */
+static struct tally tally_at(const struct bits *first, const struct bits *second, struct offset by)
 {
-    uint32_t w = first->w, h = first->h, count = 0;
+    uint32_t w = first->w, h = first->h;
+    struct tally tally = { 0, 0 };
     for (int64_t y = 0; y < h; y++)
         for (int64_t x = 0; x < w; x++)
-            if (in_frame(x - by.dx, y - by.dy, w, h))
-                count += differ(first, (size_t)(y * w + x), second, (size_t)((y - by.dy) * w + (x - by.dx)));
-    return count;
+            if (in_frame(x - by.dx, y - by.dy, w, h)) {
+                size_t i = (size_t)(y * w + x), j = (size_t)((y - by.dy) * w + (x - by.dx));
+                tally.count += differ(first, i, second, j);
+                tally.compared += both_kept(first, i, second, j);
+            }
+    return tally;
 }
 
 /* ---- Pair ---- */
@@ -308,11 +329,19 @@ static bool same_offset(struct offset a, struct offset b)
     return a.dx == b.dx && a.dy == b.dy;
 }
 
-/* "Counts are still written in the former order." */
-static void count_candidates(const struct bits *first, const struct bits *second, struct offset centre, uint32_t *counts)
+static struct tallies tallies_from(struct tallies to, size_t at)
 {
-    for (int k = 0; k < CANDIDATES; k++)
-        counts[k] = difference_count(first, second, sum_of(centre, wards_order[k]));
+    return (struct tallies){ to.counts + at, to.compared + at };
+}
+
+/* "Counts are still written in the former order." The compared numbers "in the same order". */
+static void tally_candidates(const struct bits *first, const struct bits *second, struct offset centre, struct tallies to)
+{
+    for (int k = 0; k < CANDIDATES; k++) {
+        struct tally tally = tally_at(first, second, sum_of(centre, wards_order[k]));
+        to.counts[k] = tally.count;
+        to.compared[k] = tally.compared;
+    }
 }
 
 static uint32_t count_at(const uint32_t *counts, struct offset step)
@@ -335,15 +364,15 @@ static struct offset first_least(const uint32_t *counts, struct offset centre, c
 
 /* "Each level takes its threshold afresh, both frames with the same P." */
 static struct offset settle_level(const struct offset order[CANDIDATES], const struct frame *first, const struct frame *second,
-                                  struct offset centre, uint32_t tolerance, uint32_t percentile, uint32_t *counts)
+                                  struct offset centre, uint32_t tolerance, uint32_t percentile, struct tallies to)
 {
     size_t count = pixels(first->w, first->h);
     struct bits bits1 = bits_of_frame(first, threshold_of(first->grey, count, percentile), tolerance);
     struct bits bits2 = bits_of_frame(second, threshold_of(second->grey, count, percentile), tolerance);
-    count_candidates(&bits1, &bits2, centre, counts);
+    tally_candidates(&bits1, &bits2, centre, to);
     free_bits(bits1);
     free_bits(bits2);
-    return first_least(counts, centre, order);
+    return first_least(to.counts, centre, order);
 }
 
 static struct frame halved(const struct frame *frame)
@@ -356,17 +385,17 @@ static struct frame halved(const struct frame *frame)
 /* "A level's answer rests on that of the next coarser one, doubled; below the coarsest it is (0,0)." Counts: "coarsest level
  * first". */
 static struct offset align(const struct offset order[CANDIDATES], const struct frame *first, const struct frame *second,
-                           uint32_t s, uint32_t tolerance, uint32_t percentile, uint32_t *counts)
+                           uint32_t s, uint32_t tolerance, uint32_t percentile, struct tallies to)
 {
     struct offset centre = { 0, 0 };
     if (s > 0) {
         struct frame half1 = halved(first), half2 = halved(second);
-        struct offset coarser = align(order, &half1, &half2, s - 1, tolerance, percentile, counts);
+        struct offset coarser = align(order, &half1, &half2, s - 1, tolerance, percentile, to);
         centre = (struct offset){ 2 * coarser.dx, 2 * coarser.dy };
         free(half1.grey);
         free(half2.grey);
     }
-    return settle_level(order, first, second, centre, tolerance, percentile, counts + (size_t)CANDIDATES * s);
+    return settle_level(order, first, second, centre, tolerance, percentile, tallies_from(to, (size_t)CANDIDATES * s));
 }
 
 static struct frame frame_of_raster(uint32_t w, uint32_t h, const uint8_t *raster)
@@ -378,10 +407,10 @@ static struct frame frame_of_raster(uint32_t w, uint32_t h, const uint8_t *raste
 
 static struct offset align_rasters(const struct offset order[CANDIDATES], uint32_t w, uint32_t h, uint32_t s,
                                    uint32_t tolerance, uint32_t percentile, const uint8_t *first, const uint8_t *second,
-                                   uint32_t *counts)
+                                   struct tallies to)
 {
     struct frame frame1 = frame_of_raster(w, h, first), frame2 = frame_of_raster(w, h, second);
-    struct offset found = align(order, &frame1, &frame2, s, tolerance, percentile, counts);
+    struct offset found = align(order, &frame1, &frame2, s, tolerance, percentile, to);
     free(frame1.grey);
     free(frame2.grey);
     return found;
@@ -392,11 +421,11 @@ static struct offset align_rasters(const struct offset order[CANDIDATES], uint32
 /* "Pair j is frames j−1 and j, with offset d(j)"; "counts run pair 1 first". */
 static void align_pairs(const struct offset order[CANDIDATES], uint32_t w, uint32_t h, uint32_t s, uint32_t tolerance,
                         uint32_t n, const uint32_t *percentiles, const uint8_t *rasters, struct offset d[MAX_FRAMES],
-                        uint32_t *counts)
+                        struct tallies to)
 {
     for (uint32_t j = 1; j < n; j++)
         d[j] = align_rasters(order, w, h, s, tolerance, percentiles[j - 1], rasters + (j - 1) * raster_bytes(w, h),
-                             rasters + j * raster_bytes(w, h), counts + (j - 1) * pair_counts(s));
+                             rasters + j * raster_bytes(w, h), tallies_from(to, (j - 1) * pair_counts(s)));
 }
 
 /* "Frame r has (0,0). Frame k above r has d(r+1)+…+d(k), frame k below r has −(d(k+1)+…+d(r))." */
@@ -513,7 +542,8 @@ uint32_t ref_total(uint32_t w, uint32_t h, const uint64_t *bitmap, size_t bitmap
 
 uint32_t ref_difference(uint32_t w, uint32_t h, int32_t dx, int32_t dy, const uint64_t *threshold1, size_t threshold1_len,
                         const uint64_t *exclusion1, size_t exclusion1_len, const uint64_t *threshold2,
-                        size_t threshold2_len, const uint64_t *exclusion2, size_t exclusion2_len, uint32_t *count)
+                        size_t threshold2_len, const uint64_t *exclusion2, size_t exclusion2_len, uint32_t *count,
+                        uint32_t *compared)
 {
     if (bad_size(w, h))
         return 2;
@@ -522,7 +552,9 @@ uint32_t ref_difference(uint32_t w, uint32_t h, int32_t dx, int32_t dy, const ui
         return 9;
     struct bits first = bits_of_words(w, h, threshold1, exclusion1);
     struct bits second = bits_of_words(w, h, threshold2, exclusion2);
-    *count = difference_count(&first, &second, (struct offset){ dx, dy });
+    struct tally tally = tally_at(&first, &second, (struct offset){ dx, dy });
+    *count = tally.count;
+    *compared = tally.compared;
     free_bits(first);
     free_bits(second);
     return 0;
@@ -546,8 +578,8 @@ static uint32_t settings_refusal(uint32_t w, uint32_t h, uint32_t s, uint32_t to
 
 static uint32_t pair_by(const struct offset order[CANDIDATES], uint32_t w, uint32_t h, uint32_t s, uint32_t tolerance,
                         uint32_t percentile, const uint8_t *first, size_t first_len, const uint8_t *second,
-                        size_t second_len, int32_t *dx, int32_t *dy, uint32_t *counts, size_t counts_len, size_t grey_len,
-                        size_t words_len)
+                        size_t second_len, int32_t *dx, int32_t *dy, uint32_t *counts, size_t counts_len,
+                        uint32_t *compared, size_t compared_len, size_t grey_len, size_t words_len)
 {
     uint32_t refusal = settings_refusal(w, h, s, tolerance);
     if (refusal)
@@ -556,11 +588,12 @@ static uint32_t pair_by(const struct offset order[CANDIDATES], uint32_t w, uint3
         return 8;
     if (first_len != raster_bytes(w, h) || second_len != raster_bytes(w, h))
         return 9;
-    if (counts_len < pair_counts(s))
+    if (counts_len < pair_counts(s) || compared_len < pair_counts(s))
         return 10;
     if (short_memory(w, h, s, grey_len, words_len))
         return 11;
-    struct offset found = align_rasters(order, w, h, s, tolerance, percentile, first, second, counts);
+    struct tallies to = { counts, compared };
+    struct offset found = align_rasters(order, w, h, s, tolerance, percentile, first, second, to);
     *dx = (int32_t)found.dx;
     *dy = (int32_t)found.dy;
     return 0;
@@ -568,29 +601,31 @@ static uint32_t pair_by(const struct offset order[CANDIDATES], uint32_t w, uint3
 
 uint32_t ref_pair(uint32_t w, uint32_t h, uint32_t s, uint32_t tolerance, uint32_t percentile, const uint8_t *first,
                   size_t first_len, const uint8_t *second, size_t second_len, int32_t *dx, int32_t *dy, uint32_t *counts,
-                  size_t counts_len, uint8_t *grey, size_t grey_len, uint64_t *words, size_t words_len)
+                  size_t counts_len, uint32_t *compared, size_t compared_len, uint8_t *grey, size_t grey_len, uint64_t *words,
+                  size_t words_len)
 {
     (void)grey;
     (void)words;
     return pair_by(least_move, w, h, s, tolerance, percentile, first, first_len, second, second_len, dx, dy, counts,
-                   counts_len, grey_len, words_len);
+                   counts_len, compared, compared_len, grey_len, words_len);
 }
 
 /* "a second pair of calls keeps it": Ward's order. */
 uint32_t ref_pair_ward(uint32_t w, uint32_t h, uint32_t s, uint32_t tolerance, uint32_t percentile, const uint8_t *first,
                        size_t first_len, const uint8_t *second, size_t second_len, int32_t *dx, int32_t *dy,
-                       uint32_t *counts, size_t counts_len, uint8_t *grey, size_t grey_len, uint64_t *words,
-                       size_t words_len)
+                       uint32_t *counts, size_t counts_len, uint32_t *compared, size_t compared_len, uint8_t *grey,
+                       size_t grey_len, uint64_t *words, size_t words_len)
 {
     (void)grey;
     (void)words;
     return pair_by(wards_order, w, h, s, tolerance, percentile, first, first_len, second, second_len, dx, dy, counts,
-                   counts_len, grey_len, words_len);
+                   counts_len, compared, compared_len, grey_len, words_len);
 }
 
 static uint32_t series_refusal(uint32_t w, uint32_t h, uint32_t s, uint32_t tolerance, uint32_t n, uint32_t r,
                                const uint32_t *percentiles, size_t percentiles_len, size_t rasters_len,
-                               size_t offsets_len, size_t counts_len, size_t grey_len, size_t words_len)
+                               size_t offsets_len, size_t counts_len, size_t compared_len, size_t grey_len,
+                               size_t words_len)
 {
     uint32_t refusal = settings_refusal(w, h, s, tolerance);
     if (refusal)
@@ -603,7 +638,8 @@ static uint32_t series_refusal(uint32_t w, uint32_t h, uint32_t s, uint32_t tole
         return 8;
     if (rasters_len != n * raster_bytes(w, h))
         return 9;
-    if (offsets_len < 2 * (size_t)n || counts_len < (n - 1) * pair_counts(s))
+    size_t counts_needed = (n - 1) * pair_counts(s);
+    if (offsets_len < 2 * (size_t)n || counts_len < counts_needed || compared_len < counts_needed)
         return 10;
     if (short_memory(w, h, s, grey_len, words_len))
         return 11;
@@ -613,14 +649,15 @@ static uint32_t series_refusal(uint32_t w, uint32_t h, uint32_t s, uint32_t tole
 static uint32_t series_by(const struct offset order[CANDIDATES], uint32_t w, uint32_t h, uint32_t s, uint32_t tolerance,
                           uint32_t n, uint32_t r, const uint32_t *percentiles, size_t percentiles_len,
                           const uint8_t *rasters, size_t rasters_len, int32_t *offsets, size_t offsets_len,
-                          uint32_t *counts, size_t counts_len, size_t grey_len, size_t words_len)
+                          uint32_t *counts, size_t counts_len, uint32_t *compared, size_t compared_len, size_t grey_len,
+                          size_t words_len)
 {
     uint32_t refusal = series_refusal(w, h, s, tolerance, n, r, percentiles, percentiles_len, rasters_len, offsets_len,
-                                      counts_len, grey_len, words_len);
+                                      counts_len, compared_len, grey_len, words_len);
     if (refusal)
         return refusal;
     struct offset d[MAX_FRAMES];
-    align_pairs(order, w, h, s, tolerance, n, percentiles, rasters, d, counts);
+    align_pairs(order, w, h, s, tolerance, n, percentiles, rasters, d, (struct tallies){ counts, compared });
     for (uint32_t k = 0; k < n; k++) {
         struct offset offset = frame_offset(d, r, k);
         offsets[2 * k] = (int32_t)offset.dx;
@@ -631,24 +668,24 @@ static uint32_t series_by(const struct offset order[CANDIDATES], uint32_t w, uin
 
 uint32_t ref_series(uint32_t w, uint32_t h, uint32_t s, uint32_t tolerance, uint32_t n, uint32_t r,
                     const uint32_t *percentiles, size_t percentiles_len, const uint8_t *rasters, size_t rasters_len,
-                    int32_t *offsets, size_t offsets_len, uint32_t *counts, size_t counts_len, uint8_t *grey,
-                    size_t grey_len, uint64_t *words, size_t words_len)
+                    int32_t *offsets, size_t offsets_len, uint32_t *counts, size_t counts_len, uint32_t *compared,
+                    size_t compared_len, uint8_t *grey, size_t grey_len, uint64_t *words, size_t words_len)
 {
     (void)grey;
     (void)words;
     return series_by(least_move, w, h, s, tolerance, n, r, percentiles, percentiles_len, rasters, rasters_len, offsets,
-                     offsets_len, counts, counts_len, grey_len, words_len);
+                     offsets_len, counts, counts_len, compared, compared_len, grey_len, words_len);
 }
 
 uint32_t ref_series_ward(uint32_t w, uint32_t h, uint32_t s, uint32_t tolerance, uint32_t n, uint32_t r,
                          const uint32_t *percentiles, size_t percentiles_len, const uint8_t *rasters, size_t rasters_len,
-                         int32_t *offsets, size_t offsets_len, uint32_t *counts, size_t counts_len, uint8_t *grey,
-                         size_t grey_len, uint64_t *words, size_t words_len)
+                         int32_t *offsets, size_t offsets_len, uint32_t *counts, size_t counts_len, uint32_t *compared,
+                         size_t compared_len, uint8_t *grey, size_t grey_len, uint64_t *words, size_t words_len)
 {
     (void)grey;
     (void)words;
     return series_by(wards_order, w, h, s, tolerance, n, r, percentiles, percentiles_len, rasters, rasters_len, offsets,
-                     offsets_len, counts, counts_len, grey_len, words_len);
+                     offsets_len, counts, counts_len, compared, compared_len, grey_len, words_len);
 }
 
 size_t ref_grey_needed(uint32_t w, uint32_t h, uint32_t s)
@@ -907,7 +944,7 @@ static struct picture read_picture(const uint8_t *file, size_t file_len)
 }
 
 /* The pair's number: "a second frame of another size counts as 9", after every lower number that applies. "a second pair of calls
- * keeps [Ward's order]. `bracket` uses that one" */
+ * keeps [Ward's order]. `bracket` uses that one"; it prints no compared number. */
 static uint32_t align_pictures(struct settings set, const struct picture *first, const struct picture *second, int32_t *dx,
                                int32_t *dy, uint32_t counts[BRACKET_COUNTS])
 {
@@ -918,9 +955,10 @@ static uint32_t align_pictures(struct settings set, const struct picture *first,
         return 8;
     if (first->w != second->w || first->h != second->h)
         return 9;
+    uint32_t compared[BRACKET_COUNTS];
     return ref_pair_ward(first->w, first->h, set.s, set.tolerance, set.percentile, first->raster, first->raster_len,
-                         second->raster, second->raster_len, dx, dy, counts, BRACKET_COUNTS, NULL, BRACKET_GREY, NULL,
-                         BRACKET_WORDS);
+                         second->raster, second->raster_len, dx, dy, counts, BRACKET_COUNTS, compared, BRACKET_COUNTS, NULL,
+                         BRACKET_GREY, NULL, BRACKET_WORDS);
 }
 
 /* "offset dx dy, then a line a level, coarsest first, the number of halvings before the colon, the nine counts after it" */

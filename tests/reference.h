@@ -1,4 +1,4 @@
-/* An independent implementation of document 01 and document 02, Paper 1, written straight from their text, pixel by pixel.
+/* An independent implementation of document 01 and document 02, Papers 1 and 2, written straight from their text, pixel by pixel.
  *
  * It shares no code with the library and is meant to be read beside the documents: bitmaps are read and written a bit at a
  * time, differences are counted over single pixels, a threshold is found by counting, and speed does not matter.
@@ -32,27 +32,29 @@ uint32_t ref_total(uint32_t w, uint32_t h, const uint64_t *bitmap, size_t bitmap
 
 uint32_t ref_difference(uint32_t w, uint32_t h, int32_t dx, int32_t dy, const uint64_t *threshold1, size_t threshold1_len,
                         const uint64_t *exclusion1, size_t exclusion1_len, const uint64_t *threshold2,
-                        size_t threshold2_len, const uint64_t *exclusion2, size_t exclusion2_len, uint32_t *count);
+                        size_t threshold2_len, const uint64_t *exclusion2, size_t exclusion2_len, uint32_t *count,
+                        uint32_t *compared);
 
 uint32_t ref_pair(uint32_t w, uint32_t h, uint32_t s, uint32_t tolerance, uint32_t percentile, const uint8_t *first,
                   size_t first_len, const uint8_t *second, size_t second_len, int32_t *dx, int32_t *dy, uint32_t *counts,
-                  size_t counts_len, uint8_t *grey, size_t grey_len, uint64_t *words, size_t words_len);
+                  size_t counts_len, uint32_t *compared, size_t compared_len, uint8_t *grey, size_t grey_len, uint64_t *words,
+                  size_t words_len);
 
 uint32_t ref_series(uint32_t w, uint32_t h, uint32_t s, uint32_t tolerance, uint32_t n, uint32_t r,
                     const uint32_t *percentiles, size_t percentiles_len, const uint8_t *rasters, size_t rasters_len,
-                    int32_t *offsets, size_t offsets_len, uint32_t *counts, size_t counts_len, uint8_t *grey,
-                    size_t grey_len, uint64_t *words, size_t words_len);
+                    int32_t *offsets, size_t offsets_len, uint32_t *counts, size_t counts_len, uint32_t *compared,
+                    size_t compared_len, uint8_t *grey, size_t grey_len, uint64_t *words, size_t words_len);
 
 /* The kept calls: among equal counts these two take the first in Ward's order, those above the least move. */
 uint32_t ref_pair_ward(uint32_t w, uint32_t h, uint32_t s, uint32_t tolerance, uint32_t percentile, const uint8_t *first,
                        size_t first_len, const uint8_t *second, size_t second_len, int32_t *dx, int32_t *dy,
-                       uint32_t *counts, size_t counts_len, uint8_t *grey, size_t grey_len, uint64_t *words,
-                       size_t words_len);
+                       uint32_t *counts, size_t counts_len, uint32_t *compared, size_t compared_len, uint8_t *grey,
+                       size_t grey_len, uint64_t *words, size_t words_len);
 
 uint32_t ref_series_ward(uint32_t w, uint32_t h, uint32_t s, uint32_t tolerance, uint32_t n, uint32_t r,
                          const uint32_t *percentiles, size_t percentiles_len, const uint8_t *rasters, size_t rasters_len,
-                         int32_t *offsets, size_t offsets_len, uint32_t *counts, size_t counts_len, uint8_t *grey,
-                         size_t grey_len, uint64_t *words, size_t words_len);
+                         int32_t *offsets, size_t offsets_len, uint32_t *counts, size_t counts_len, uint32_t *compared,
+                         size_t compared_len, uint8_t *grey, size_t grey_len, uint64_t *words, size_t words_len);
 
 uint32_t ref_p6_size(const uint8_t *file, size_t file_len, uint32_t *w, uint32_t *h);
 

@@ -1,16 +1,16 @@
 /* The reference itself against what documents 01 and 02 print: their worked examples, also those that the library proves, and the
- * table of numbers; and a tie worked by hand. Prints what it compared; exit status 1 when something differs. */
+ * table of numbers; and a tie and compared numbers worked by hand. Prints what it compared; exit status 1 when something differs. */
 #include "reference.h"
 
 #include <stdio.h>
 #include <stdlib.h>
 #include <string.h>
 
-static int compared, different;
+static int checked, different;
 
 static void expect(const char *what, bool holds)
 {
-    compared++;
+    checked++;
     if (!holds) {
         different++;
         printf("differs: %s\n", what);
@@ -84,9 +84,9 @@ static void check_printed(const char *what, const uint8_t first_tones[3])
 
 enum { MOST_PIXELS = 256, MOST_COUNTS = 27, AMPLE = 1000 };
 
-/* Two square frames, one raster after another, and the counts of their pair at T = 0, P = 50. */
+/* Two square frames, one raster after another, and the counts and compared numbers of their pair at T = 0, P = 50. */
 struct square {
-    uint32_t side, s, counts[MOST_COUNTS];
+    uint32_t side, s, counts[MOST_COUNTS], compared[MOST_COUNTS];
     uint8_t rasters[2 * 3 * MOST_PIXELS];
 };
 
@@ -95,29 +95,30 @@ static size_t raster_bytes(const struct square *square)
     return (size_t)3 * square->side * square->side;
 }
 
-static bool right_counts(const struct square *square, const uint32_t *counts)
+static bool right_numbers(const struct square *square, const uint32_t *counts, const uint32_t *compared)
 {
-    return memcmp(counts, square->counts, 9 * (square->s + 1) * sizeof *counts) == 0;
+    size_t bytes = 9 * (square->s + 1) * sizeof *counts;
+    return memcmp(counts, square->counts, bytes) == 0 && memcmp(compared, square->compared, bytes) == 0;
 }
 
 static bool pair_gives(__typeof__(ref_pair) *pair, const struct square *square, int32_t dx, int32_t dy)
 {
-    uint32_t side = square->side, counts[MOST_COUNTS];
+    uint32_t side = square->side, counts[MOST_COUNTS], compared[MOST_COUNTS];
     int32_t x = 99, y = 99;
     size_t bytes = raster_bytes(square);
     uint32_t number = pair(side, side, square->s, 0, 50, square->rasters, bytes, square->rasters + bytes, bytes, &x, &y, counts,
-                           MOST_COUNTS, NULL, AMPLE, NULL, AMPLE);
-    return number == 0 && x == dx && y == dy && right_counts(square, counts);
+                           MOST_COUNTS, compared, MOST_COUNTS, NULL, AMPLE, NULL, AMPLE);
+    return number == 0 && x == dx && y == dy && right_numbers(square, counts, compared);
 }
 
 static bool series_gives(__typeof__(ref_series) *series, const struct square *square, int32_t dx, int32_t dy)
 {
-    uint32_t side = square->side, percentile = 50, counts[MOST_COUNTS];
+    uint32_t side = square->side, percentile = 50, counts[MOST_COUNTS], compared[MOST_COUNTS];
     int32_t offsets[4] = { 99, 99, 99, 99 };
     uint32_t number = series(side, side, square->s, 0, 2, 0, &percentile, 1, square->rasters, 2 * raster_bytes(square), offsets, 4,
-                             counts, MOST_COUNTS, NULL, AMPLE, NULL, AMPLE);
+                             counts, MOST_COUNTS, compared, MOST_COUNTS, NULL, AMPLE, NULL, AMPLE);
     return number == 0 && offsets[0] == 0 && offsets[1] == 0 && offsets[2] == dx && offsets[3] == dy &&
-           right_counts(square, counts);
+           right_numbers(square, counts, compared);
 }
 
 static void expect_least_move(const char *what, const struct square *square, int32_t dx, int32_t dy)
@@ -138,12 +139,16 @@ static struct square lettered_square(uint32_t side, uint32_t s, const char *firs
     return square;
 }
 
-/* "its printed case is unchanged": by the kept call. Its first three counts tie. */
+/* "its printed case is unchanged": by the kept call. Its first three counts tie. The medians are b: one pixel of each frame is left
+ * out, (1,3) of the first and (2,3) of the second, which lie on each other at (-1,0). So compared are the 9, 12 or 16 pixels that
+ * overlap, less those of the two that are among them. */
 static void check_printed_orders(void)
 {
     static const uint32_t counts[9] = { 0, 0, 0, 5, 7, 6, 8, 10, 8 };
+    static const uint32_t compared[9] = { 9 - 1, 12 - 1, 9 - 1, 12 - 1, 16 - 2, 12 - 1, 9 - 1, 12 - 2, 9 - 1 };
     struct square printed = lettered_square(4, 0, printed_first, printed_second);
     memcpy(printed.counts, counts, sizeof counts);
+    memcpy(printed.compared, compared, sizeof compared);
     expect_kept("the printed case by the kept call: (-1,-1)", &printed, -1, -1);
     expect_least_move("the printed case by the least move: (-1,0)", &printed, -1, 0);
 }
@@ -153,11 +158,12 @@ static void check_flat(void)
 {
     struct square flat = { .side = 16, .s = 2 };
     memset(flat.rasters, 77, sizeof flat.rasters);
-    expect_kept("the flat plate by the kept call: (-7,-7), 27 counts of 0", &flat, -7, -7);
-    expect_least_move("the flat plate by the least move: (0,0), 27 counts of 0", &flat, 0, 0);
+    expect_kept("the flat plate by the kept call: (-7,-7), 27 counts of 0, out of 0", &flat, -7, -7);
+    expect_least_move("the flat plate by the least move: (0,0), 27 counts of 0, out of 0", &flat, 0, 0);
 }
 
-/* The median is b, which is excluded: a and c differ where one lies on the other. Halved to 4 by 4, (1,1) alone has no difference.
+/* The median is b, which is excluded: a and c differ where one lies on the other, and no others are compared. Halved to 4 by 4,
+ * (1,1) alone has no difference.
  * So the centre is (2,2), and there the steps (0,-1) and (1,0) tie at one difference. Ward's order has (0,-1) first, the least move
  * (1,0). With dx and dy exchanged, by its last in place of its first, or by nearness to (0,0) it would take (0,-1) too. */
 static void check_tie(void)
@@ -181,6 +187,7 @@ static void check_tie(void)
                                         "bbbbbbbb"
                                         "bbbbbbbb");
     memcpy(tie.counts, counts, sizeof counts);
+    memcpy(tie.compared, counts, sizeof counts);
     expect_kept("a tie around (2,2) by the kept call: (2,1)", &tie, 2, 1);
     expect_least_move("a tie around (2,2) by the least move: (3,2)", &tie, 3, 2);
 }
@@ -191,19 +198,21 @@ static void check_tie(void)
 static uint32_t pair_number(uint32_t w, uint32_t h, uint32_t s, uint32_t tolerance)
 {
     static uint8_t raster[3 * 16 * 16];
-    uint32_t counts[27];
+    uint32_t counts[27], compared[27];
     int32_t dx, dy;
     size_t length = (size_t)3 * w * h;
-    return ref_pair(w, h, s, tolerance, 50, raster, length, raster, length, &dx, &dy, counts, 27, NULL, 100000, NULL, 100000);
+    return ref_pair(w, h, s, tolerance, 50, raster, length, raster, length, &dx, &dy, counts, 27, compared, 27, NULL, 100000, NULL,
+                    100000);
 }
 
 static uint32_t series_number(uint32_t n, int32_t offsets[32])
 {
     static uint8_t rasters[17 * 48];
-    uint32_t percentiles[16], counts[144];
+    uint32_t percentiles[16], counts[144], compared[144];
     for (int i = 0; i < 16; i++)
         percentiles[i] = 50;
-    return ref_series(4, 4, 0, 0, n, 0, percentiles, n - 1, rasters, n * 48, offsets, 32, counts, 144, NULL, 32, NULL, 24);
+    return ref_series(4, 4, 0, 0, n, 0, percentiles, n - 1, rasters, n * 48, offsets, 32, counts, 144, compared, 144, NULL,
+                      32, NULL, 24);
 }
 
 static void check_limits(void)
@@ -236,6 +245,53 @@ static void check_shifts(void)
     expect("shift by less than w: not all 0", !shifts_out(69, 0) && !shifts_out(-69, 0));
 }
 
+/* ---- How many pixels had a say ---- */
+
+/* A difference of frames of 70 by 3 with all their threshold bits unequal: count and compared number. */
+static bool tallies(const uint64_t exclusion1[6], const uint64_t exclusion2[6], int32_t dx, int32_t dy, uint32_t expected)
+{
+    static const uint64_t dark[6], bright[6] = { ~0ull, ~0ull, ~0ull, ~0ull, ~0ull, ~0ull };
+    uint32_t count = 99, compared = 99;
+    uint32_t number = ref_difference(70, 3, dx, dy, dark, 6, exclusion1, 6, bright, 6, exclusion2, 6, &count, &compared);
+    return number == 0 && count == expected && compared == expected;
+}
+
+static void check_compared(void)
+{
+    static const uint64_t all[6] = { ~0ull, ~0ull, ~0ull, ~0ull, ~0ull, ~0ull }, none[6];
+    static const uint64_t left[6] = { 1, 0, 1, 0, 1, 0 }, past[6] = { 0, ~63ull, 0, ~63ull, 0, ~63ull };
+    expect("none excluded: all that overlap, no bits past w", tallies(all, all, 0, 0, 210) && tallies(all, all, 3, -1, 134));
+    expect("no overlap: none", tallies(all, all, 70, 0, 0) && tallies(all, all, 0, -3, 0) && tallies(all, all, INT32_MIN, 0, 0));
+    expect("all of a frame excluded: none", tallies(none, all, 0, 0, 0) && tallies(all, none, 0, 0, 0));
+    expect("only bits past w set: none", tallies(past, all, 0, 0, 0) && tallies(all, past, -1, 0, 0));
+    expect("the second frame's left column is moved in", tallies(all, left, 1, 0, 3) && tallies(all, left, 69, 1, 2));
+    expect("the second frame's left column is moved out", tallies(all, left, -1, 0, 0));
+    expect("the first frame's left column stays", tallies(left, all, -1, 0, 3) && tallies(left, all, 1, 0, 0));
+    expect("both left columns", tallies(left, left, 0, 0, 3) && tallies(left, left, 1, 0, 0));
+}
+
+static uint32_t lengths_number(size_t counts_len, size_t compared_len)
+{
+    static uint8_t rasters[2 * 48];
+    uint32_t percentile = 50, counts[9], compared[9];
+    int32_t dx, dy, offsets[4];
+    uint32_t pair = ref_pair(4, 4, 0, 0, 50, rasters, 48, rasters, 48, &dx, &dy, counts, counts_len, compared, compared_len, NULL,
+                             AMPLE, NULL, AMPLE);
+    uint32_t series = ref_series(4, 4, 0, 0, 2, 0, &percentile, 1, rasters, 96, offsets, 4, counts, counts_len, compared,
+                                 compared_len, NULL, AMPLE, NULL, AMPLE);
+    expect("pair and series refuse alike", pair == series);
+    return pair;
+}
+
+/* "into a further buffer of the same length … A shorter one is refused by 10." */
+static void check_compared_lengths(void)
+{
+    expect("nine counts and nine compared numbers accepted", lengths_number(9, 9) == 0);
+    expect("eight compared numbers refused by 10", lengths_number(9, 8) == 10);
+    expect("eight counts refused by 10", lengths_number(8, 9) == 10);
+    expect("eight of both refused by 10", lengths_number(8, 8) == 10);
+}
+
 int main(void)
 {
     check_pixels();
@@ -247,6 +303,8 @@ int main(void)
     check_tie();
     check_limits();
     check_shifts();
-    printf("reference: %d compared, %d differ\n", compared, different);
+    check_compared();
+    check_compared_lengths();
+    printf("reference: %d compared, %d differ\n", checked, different);
     return different ? EXIT_FAILURE : EXIT_SUCCESS;
 }

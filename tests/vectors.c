@@ -153,7 +153,7 @@ static void put_slices(const struct vector *v, const struct answer *a, uint32_t 
         record[FIELD_INPUT + 2 * i] = input_place(v, i);
         record[FIELD_INPUT + 2 * i + 1] = (uint32_t)v->in[i].length;
     }
-    for (int i = 0; i < 2; i++)
+    for (int i = 0; i < MOST_OUTPUTS; i++)
         if (a->out[i]) {
             record[FIELD_OUTPUT + 2 * i] = (uint32_t)(v->call == CALL_BRACKET ? a->out_bytes[i] : v->out[i]);
             record[FIELD_OUTPUT + 2 * i + 1] = keep_contents(a->out[i], a->out_bytes[i], a->whole[i]);

@@ -50,12 +50,12 @@ enum field {
     FIELD_DX,
     FIELD_DY,
     FIELD_INPUT,              /* four times: place in the pool, length */
-    FIELD_OUTPUT = 19,        /* twice: length, place of the expected contents */
-    FIELD_GREY = 23,          /* work memory: length, place of the expected contents when refused */
-    FIELD_WORDS = 25,
-    FIELD_VALUES = 27,        /* four expected values */
-    FIELD_SCENE = 31,
-    FIELDS = 32,
+    FIELD_OUTPUT = 19,        /* three times: length, place of the expected contents */
+    FIELD_GREY = 25,          /* work memory: length, place of the expected contents when refused */
+    FIELD_WORDS = 27,
+    FIELD_VALUES = 29,        /* four expected values */
+    FIELD_SCENE = 33,
+    FIELDS = 34,
 };
 
 /* A lent input: bytes, or numbers of 4 or 8 bytes. The length counts elements. */
@@ -64,13 +64,15 @@ struct slice {
     size_t length;
 };
 
+enum { MOST_OUTPUTS = 3, MOST_VALUES = 4 };
+
 /* A call, with fields as in a record. Frames made by a formula also have all made bytes, their rows a frame and the scene. */
 struct vector {
     enum call call;
     uint32_t w, h, s, tolerance, percentile, n, r;
     int32_t dx, dy;
     struct slice in[4];
-    size_t out[2], grey, words;
+    size_t out[MOST_OUTPUTS], grey, words;
     struct slice made;
     uint32_t made_rows, scene;
 };
@@ -78,14 +80,12 @@ struct vector {
 /* Gives every slice the length that the sizes and settings need, and where those are refused, that of small good ones. */
 void fit_lengths(struct vector *vector);
 
-enum { MOST_VALUES = 4 };
-
 /* What the reference answered: number, values, and the final contents of the outputs. */
 struct answer {
     uint32_t refusal, values[MOST_VALUES];
-    void *out[2];
-    size_t out_bytes[2];
-    bool whole[2];            /* stored in full, however long */
+    void *out[MOST_OUTPUTS];
+    size_t out_bytes[MOST_OUTPUTS];
+    bool whole[MOST_OUTPUTS]; /* stored in full, however long */
 };
 
 struct answer answer_of(const struct vector *vector);

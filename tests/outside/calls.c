@@ -56,6 +56,13 @@ static void add_result(struct trial *t, const char *name, size_t element)
     add_slice(t, RESULT, name, element, 1);
 }
 
+/* The counts, and beside them the compared numbers. */
+static void add_counts(struct trial *t, size_t needed)
+{
+    add_slice(t, OUTPUT, "counts", sizeof(uint32_t), needed);
+    add_slice(t, OUTPUT, "compared", sizeof(uint32_t), needed);
+}
+
 static void add_work(struct trial *t)
 {
     add_slice(t, WORK, "grey", 1, work_grey(&t->made_for));
@@ -106,6 +113,7 @@ static void difference_slices(struct trial *t)
     add_bitmap(t, "threshold2");
     add_bitmap(t, "exclusion2");
     add_result(t, "count", sizeof(uint32_t));
+    add_result(t, "compared", sizeof(uint32_t));
 }
 
 /* Both rasters show one scene. */
@@ -119,7 +127,7 @@ static void pair_slices(struct trial *t)
     add_slice(t, INPUT, "second", 1, bytes)->made = second;
     add_result(t, "dx", sizeof(int32_t));
     add_result(t, "dy", sizeof(int32_t));
-    add_slice(t, OUTPUT, "counts", sizeof(uint32_t), pair_counts(n));
+    add_counts(t, pair_counts(n));
     add_work(t);
 }
 
@@ -139,7 +147,7 @@ static void series_slices(struct trial *t)
     add_percentiles(t, pairs);
     add_slice(t, INPUT, "rasters", 1, 3 * pixels(n) * n->n)->made = make_rasters(n->w, n->h, n->n);
     add_slice(t, OUTPUT, "offsets", sizeof(int32_t), 2 * (size_t)n->n);
-    add_slice(t, OUTPUT, "counts", sizeof(uint32_t), pairs * pair_counts(n));
+    add_counts(t, pairs * pair_counts(n));
     add_work(t);
 }
 
@@ -236,12 +244,13 @@ ASK(ask_total)
 
 ASK(ask_difference)
 {
-    return l->difference(n->w, n->h, n->dx, n->dy, SLICE(0), SLICE(1), SLICE(2), SLICE(3), a[4].at);
+    return l->difference(n->w, n->h, n->dx, n->dy, SLICE(0), SLICE(1), SLICE(2), SLICE(3), a[4].at, a[5].at);
 }
 
 static uint32_t ask_pair_of(__typeof__(mtb_pair) *pair, const struct numbers *n, const struct lent *a)
 {
-    return pair(n->w, n->h, n->s, n->tolerance, n->percentile, SLICE(0), SLICE(1), a[2].at, a[3].at, SLICE(4), SLICE(5), SLICE(6));
+    return pair(n->w, n->h, n->s, n->tolerance, n->percentile, SLICE(0), SLICE(1), a[2].at, a[3].at, SLICE(4), SLICE(5), SLICE(6),
+                SLICE(7));
 }
 
 ASK(ask_pair)
@@ -256,7 +265,7 @@ ASK(ask_pair_ward)
 
 static uint32_t ask_series_of(__typeof__(mtb_series) *series, const struct numbers *n, const struct lent *a)
 {
-    return series(n->w, n->h, n->s, n->tolerance, n->n, n->r, SLICE(0), SLICE(1), SLICE(2), SLICE(3), SLICE(4), SLICE(5));
+    return series(n->w, n->h, n->s, n->tolerance, n->n, n->r, SLICE(0), SLICE(1), SLICE(2), SLICE(3), SLICE(4), SLICE(5), SLICE(6));
 }
 
 ASK(ask_series)

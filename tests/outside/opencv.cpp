@@ -48,11 +48,11 @@ std::vector<Move> library_moves(const Settings &set, const std::vector<Grey> &fr
     uint32_t n = (uint32_t)frames.size();
     std::vector<uint8_t> rasters = rasters_of(frames), grey(mtb_grey_needed(set.w, set.h, set.s));
     std::vector<uint64_t> words(mtb_words_needed(set.w, set.h, set.s));
-    std::vector<uint32_t> percentiles(n - 1, median), counts(9 * (set.s + 1) * (n - 1));
+    std::vector<uint32_t> percentiles(n - 1, median), counts(9 * (set.s + 1) * (n - 1)), compared(counts.size());
     std::vector<int32_t> offsets(2 * n);
     uint32_t refusal = mtb_series_ward(set.w, set.h, set.s, set.tolerance, n, r, percentiles.data(), percentiles.size(),
                                        rasters.data(), rasters.size(), offsets.data(), offsets.size(), counts.data(), counts.size(),
-                                       grey.data(), grey.size(), words.data(), words.size());
+                                       compared.data(), compared.size(), grey.data(), grey.size(), words.data(), words.size());
     if (refusal) {
         std::fprintf(stderr, "opencv: refused %u\n", refusal);
         std::exit(1);

@@ -10,7 +10,8 @@
 enum { STACK = 1 << 18, FRAMES = 16, LEVELS = 9 };
 
 /* What the calls are made on. */
-static uint32_t w, h, s, n, number, counts[9 * LEVELS * (FRAMES - 1)], percentiles[FRAMES - 1], left, right, top, bottom;
+enum { COUNTS = 9 * LEVELS * (FRAMES - 1) };
+static uint32_t w, h, s, n, number, counts[COUNTS], compared[COUNTS], percentiles[FRAMES - 1], left, right, top, bottom;
 static int32_t dx, dy, offsets[2 * FRAMES];
 static const int32_t still[2 * FRAMES];
 static size_t area, bitmap_len, grey_len, words_len, start, length, written;
@@ -28,15 +29,16 @@ static void call_shift(void) { number = mtb_shift(w, h, dx, dy, thresholds, bitm
 static void call_total(void) { number = mtb_total(w, h, thresholds, bitmap_len, &left); }
 static void call_difference(void) {
     number = mtb_difference(w, h, dx, dy, thresholds, bitmap_len, exclusions, bitmap_len, thresholds, bitmap_len, exclusions,
-                            bitmap_len, &left);
+                            bitmap_len, &left, &right);
 }
 #define PAIR_ARGUMENTS                                                                                                          \
-    w, h, s, 4, 50, rasters, 3 * area, rasters + 3 * area, 3 * area, &dx, &dy, counts, 9 * (s + 1), grey, grey_len, words, words_len
+    w, h, s, 4, 50, rasters, 3 * area, rasters + 3 * area, 3 * area, &dx, &dy, counts, 9 * (s + 1), compared, 9 * (s + 1), grey, \
+        grey_len, words, words_len
 static void call_pair(void) { number = mtb_pair(PAIR_ARGUMENTS); }
 static void call_pair_ward(void) { number = mtb_pair_ward(PAIR_ARGUMENTS); }
 #define SERIES_ARGUMENTS                                                                                                        \
-    w, h, s, 4, n, n / 2, percentiles, n - 1, rasters, n * 3 * area, offsets, 2 * n, counts, 9 * (s + 1) * (n - 1), grey,       \
-        grey_len, words, words_len
+    w, h, s, 4, n, n / 2, percentiles, n - 1, rasters, n * 3 * area, offsets, 2 * n, counts, 9 * (s + 1) * (n - 1), compared,   \
+        9 * (s + 1) * (n - 1), grey, grey_len, words, words_len
 static void call_series(void) { number = mtb_series(SERIES_ARGUMENTS); }
 static void call_series_ward(void) { number = mtb_series_ward(SERIES_ARGUMENTS); }
 static void call_grey_needed(void) { number = mtb_grey_needed(w, h, s) != grey_len; }

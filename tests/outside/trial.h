@@ -9,7 +9,7 @@
 #include <stddef.h>
 #include <stdint.h>
 
-enum { MAX_SLICES = 7, REFUSALS = 15, MAX_SIDE = 4096, MAX_HALVINGS = 8, MAX_TOLERANCE = 64, MAX_FRAMES = 16 };
+enum { MAX_SLICES = 8, REFUSALS = 15, MAX_SIDE = 4096, MAX_HALVINGS = 8, MAX_TOLERANCE = 64, MAX_FRAMES = 16 };
 
 #define UNKNOWN UINT32_MAX
 

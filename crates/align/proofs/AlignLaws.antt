@@ -1,4 +1,4 @@
--- The step of the recursion over plain lists: what the coarser level reads, what it leaves, and how the counts go together.
+-- The step of the recursion over plain lists: what the coarser level reads, what it leaves, and how the numbers go together.
 use mathlib.Core.Path.{_≡_, refl, sym, ap, ap₂, _∙_}
 use mathlib.Core.List.{List, [], _++_, map}
 use Prim.Native.Nat.{ℕ, suc, _+_, _*_, _-_, _/_, _^_, _≤_, _<_}
@@ -14,23 +14,23 @@ use Rattle.rules.specs.declared.Setup.{Setup}
 use Rattle.rules.specs.Limits.{maxOffset, maxCentre}
 use Rattle.rules.specs.Frames.{Frame, frameOf, SameFrame}
 use Rattle.rules.specs.Greys.{halved}
-use Rattle.rules.specs.Levels.{still, added, wardOrder, arranged, ExclusionRule, ruleOf, chosen, Aligned, level, countAt, pair, Near}
+use Rattle.rules.specs.Levels.{still, added, wardOrder, arranged, ExclusionRule, ruleOf, chosen, Aligned, level, countAt, comparedAt, pair, Near}
 use Rattle.rules.specs.Bitmaps.{rowWords}
 use Rattle.rules.specs.Buffers.{RowAt, FrameAt}
 use Rattle.rules.proofs.FrameLaws.{pixel-fits, row-ext, row-join}
-use Rattle.rules.proofs.LevelLaws.{map-at, counts-length}
+use Rattle.rules.proofs.LevelLaws.{map-at, counts-length, compared-length}
 use Rattle.rules.proofs.OffsetLaws.{near-add, near-more, near-pair, near-arranged}
-use Rattle.rules.proofs.PairLaws.{halved-ext, count-ext, pair-ext}
+use Rattle.rules.proofs.PairLaws.{halved-ext, count-ext, compared-at-ext, pair-ext}
 use Rattle.rules.proofs.AlignmentLaws.{level-pixels-step, level-pixels-at}
 use Rattle.level_planes.specs.FrameSides.{Sides}
 use Rattle.level_counts.specs.NineCounts.{nineOf}
-use Rattle.level.specs.Choices.{countBy, LevelAligned}
-use Rattle.align.specs.Aligns.{Frames, Aligns, alignedIn, countOf}
+use Rattle.level.specs.Choices.{countBy, comparedBy, LevelAligned}
+use Rattle.align.specs.Aligns.{Frames, Aligns, alignedIn}
 
--- The nine counts that a level writes, by place.
-nine-at : (count : Offset → ℕ) (centre : Offset) (k : ℕ) → k < 9
-    → getD (map count (map (added centre) wardOrder)) k 0 ≡ nineOf count centre k
-nine-at count centre k l = map-at count (map (added centre) wardOrder) still 0 k l
+-- The nine numbers that a level writes, by place.
+nine-at : (number : Offset → ℕ) (centre : Offset) (k : ℕ) → k < 9
+    → getD (map number (map (added centre) wardOrder)) k 0 ≡ nineOf number centre k
+nine-at number centre k l = map-at number (map (added centre) wardOrder) still 0 k l
 
 -- the setup of the next coarser level
 abbrev pub coarser : Setup → Setup
@@ -38,38 +38,48 @@ coarser S = record { w = S .w / 2; h = S .h / 2; s = S .s - 1; percentile = S .p
 
 -- a pair with no halving, and one with some
 pair-one : (preferred : List Offset) (rule : ExclusionRule) (percentile s w h : ℕ) (a b : Frame) → s ≡ 0
-    → pair preferred rule percentile s w h a b ≡ level preferred (countAt rule percentile w h a b) still []
+    → pair preferred rule percentile s w h a b ≡ level preferred (countAt rule percentile w h a b) (comparedAt rule percentile w h a b) still [] []
 unfolding pair
 pair-one preferred rule percentile s w h a b e = ap (λ (n : ℕ). pair preferred rule percentile n w h a b) e
 
 pair-more : (preferred : List Offset) (rule : ExclusionRule) (percentile s w h : ℕ) (a b : Frame) → 0 < s
     → let coarse = pair preferred rule percentile (s - 1) (w / 2) (h / 2) (halved a) (halved b) in
-    pair preferred rule percentile s w h a b ≡ level preferred (countAt rule percentile w h a b) (added (coarse .offset) (coarse .offset)) (coarse .counts)
+    pair preferred rule percentile s w h a b
+    ≡ level preferred (countAt rule percentile w h a b) (comparedAt rule percentile w h a b) (added (coarse .offset) (coarse .offset)) (coarse .counts) (coarse .compared)
 unfolding pair
 pair-more preferred rule percentile s w h a b some =
     let e : s ≡ suc (s - 1) = omega arith in
     ap (λ (n : ℕ). pair preferred rule percentile n w h a b) e
 
 -- a level alone
-pub aligned-one : (preferred : List Offset) (S : Setup) (first second at : ℕ) (grey counts counts′ : List ℕ) (r : Offset) → S .s ≡ 0
-    → LevelAligned preferred (countBy S (frameOf (S .w) (drop first grey)) (frameOf (S .w) (drop second grey))) still at counts counts′ r
-    → Aligns preferred S first second at grey grey counts counts′ r
+pub aligned-one : (preferred : List Offset) (S : Setup) (first second at : ℕ) (grey counts counts′ compared compared′ : List ℕ) (r : Offset) → S .s ≡ 0
+    → LevelAligned preferred (countBy S (frameOf (S .w) (drop first grey)) (frameOf (S .w) (drop second grey)))
+    (comparedBy S (frameOf (S .w) (drop first grey)) (frameOf (S .w) (drop second grey))) still at counts counts′ compared compared′ r
+    → Aligns preferred S first second at grey grey counts counts′ compared compared′ r
 unfolding level
-aligned-one preferred S first second at grey counts counts′ r e p = record {
+aligned-one preferred S first second at grey counts counts′ compared compared′ r e p = record {
   offset = p .offset ∙ sym (ap (λ (a : Aligned). a .offset) one);
-  written = rw (sym nine) (row-ext at (nineOf count still) (countOf (alignedIn preferred S first second grey)) counts counts′ 9
-      (λ k l. sym (ap (λ (a : Aligned). getD (a .counts) k 0) one ∙ nine-at count still k l)) (p .counts));
+  countsWritten = alone (λ a. a .counts) count counts counts′ (ap (λ (a : Aligned). a .counts) one) (p .nineCounts);
+  comparedWritten = alone (λ a. a .compared) outOf compared compared′ (ap (λ (a : Aligned). a .compared) one) (p .nineCompared);
   kept = λ m l. refl;
 }
   where
     count : Offset → ℕ
     count = countBy S (frameOf (S .w) (drop first grey)) (frameOf (S .w) (drop second grey))
 
-    one : alignedIn preferred S first second grey ≡ level preferred count still []
+    outOf : Offset → ℕ
+    outOf = comparedBy S (frameOf (S .w) (drop first grey)) (frameOf (S .w) (drop second grey))
+
+    one : alignedIn preferred S first second grey ≡ level preferred count outOf still [] []
     one = pair-one preferred (ruleOf (S .exclusion)) (S .percentile) (S .s) (S .w) (S .h) (frameOf (S .w) (drop first grey)) (frameOf (S .w) (drop second grey)) e
 
-    nine : 9 ≡ 9 * (S .s + 1)
-    nine = omega arith
+    -- either list
+    alone : (list : Aligned → List ℕ) (number : Offset → ℕ) (before after : List ℕ) → list (alignedIn preferred S first second grey) ≡ map number (map (added still) wardOrder)
+        → RowAt at (nineOf number still) before 9 after → RowAt at (λ k. getD (list (alignedIn preferred S first second grey)) k 0) before (9 * (S .s + 1)) after
+    alone list number before after is written =
+        let nine : 9 * (S .s + 1) ≡ 9 = omega arith in
+        rw nine (row-ext at (nineOf number still) (λ k. getD (list (alignedIn preferred S first second grey)) k 0) before after 9
+        (λ k l. sym (ap (λ (m : List ℕ). getD m k 0) is ∙ nine-at number still k l)) written)
 
 -- What a part of a `&mut` that begins at `a` leaves of the whole: all before it.
 before-part : (a m : ℕ) (whole part : List ℕ) → a ≤ length whole → m < a
@@ -138,20 +148,26 @@ module _ (preferred : List Offset) (S : Setup) (first second : ℕ) (g0 g1 g2 : 
       ∙ halved-ext (S .w) (S .h) (frameOf (S .w) (drop second g1)) (frameOf (S .w) (drop second g0)) second-kept x y k l
 
   -- A level after its coarser one.
-  pub aligned-more : (at : ℕ) (p′ counts counts1 counts2 : List ℕ) (place : ℕ) (coarse centre r : Offset)
+  pub aligned-more : (at : ℕ) (p′ counts counts1 counts2 compared compared1 compared2 : List ℕ) (place : ℕ) (coarse centre r : Offset)
       → 2 * (S .w * S .h) ≤ length g2
-      → Aligns preferred (coarser S) 0 (S .w / 2 * (S .h / 2)) at (remainder S g2) p′ counts counts1 coarse
+      → Aligns preferred (coarser S) 0 (S .w / 2 * (S .h / 2)) at (remainder S g2) p′ counts counts1 compared compared1 coarse
       → centre ≡ added coarse coarse
       → place ≡ at + 9 * S .s
-      → LevelAligned preferred (countBy S (frameOf (S .w) (drop first (returned S g2 p′))) (frameOf (S .w) (drop second (returned S g2 p′)))) centre place counts1 counts2 r
-      → Aligns preferred S first second at g0 (returned S g2 p′) counts counts2 r
+      → LevelAligned preferred (countBy S (frameOf (S .w) (drop first (returned S g2 p′))) (frameOf (S .w) (drop second (returned S g2 p′))))
+      (comparedBy S (frameOf (S .w) (drop first (returned S g2 p′))) (frameOf (S .w) (drop second (returned S g2 p′)))) centre place counts1 counts2 compared1 compared2 r
+      → Aligns preferred S first second at g0 (returned S g2 p′) counts counts2 compared compared2 r
   unfolding level
-  aligned-more at p′ counts counts1 counts2 place coarse centre r long below c d here = record {
+  aligned-more at p′ counts counts1 counts2 compared compared1 compared2 place coarse centre r long below c d here = record {
     offset =
         here .offset
         ∙ ap₂ (λ (f : Offset → ℕ) (m : Offset). chosen f (map (added m) preferred)) counts-same centre-is
         ∙ sym (ap (λ (a : Aligned). a .offset) full-is);
-    written = rw total (row-join at (countOf (alignedIn preferred S first second g0)) (nineOf count3 centre) counts counts1 counts2 (9 * S .s) 9 lower upper later);
+    countsWritten =
+        together (λ a. a .counts) count count3 counts counts1 counts2 counts-same (ap (λ (a : Aligned). a .counts) full-is)
+        (counts-length preferred rule (S .percentile) (S .s - 1) (S .w / 2) (S .h / 2) (halved A) (halved B)) (below .countsWritten) (here .nineCounts);
+    comparedWritten =
+        together (λ a. a .compared) outOf outOf3 compared compared1 compared2 out-of-same (ap (λ (a : Aligned). a .compared) full-is)
+        (compared-length preferred rule (S .percentile) (S .s - 1) (S .w / 2) (S .h / 2) (halved A) (halved B)) (below .comparedWritten) (here .nineCompared);
     kept = kept;
   }
     where
@@ -164,6 +180,12 @@ module _ (preferred : List Offset) (S : Setup) (first second : ℕ) (g0 g1 g2 : 
       B : Frame
       B = frameOf (S .w) (drop second g0)
 
+      A3 : Frame
+      A3 = frameOf (S .w) (drop first (returned S g2 p′))
+
+      B3 : Frame
+      B3 = frameOf (S .w) (drop second (returned S g2 p′))
+
       under : Aligned
       under = pair preferred rule (S .percentile) (S .s - 1) (S .w / 2) (S .h / 2) (halved A) (halved B)
 
@@ -171,21 +193,40 @@ module _ (preferred : List Offset) (S : Setup) (first second : ℕ) (g0 g1 g2 : 
       count = countBy S A B
 
       count3 : Offset → ℕ
-      count3 = countBy S (frameOf (S .w) (drop first (returned S g2 p′))) (frameOf (S .w) (drop second (returned S g2 p′)))
+      count3 = countBy S A3 B3
 
-      full-is : alignedIn preferred S first second g0 ≡ level preferred count (added (under .offset) (under .offset)) (under .counts)
+      outOf : Offset → ℕ
+      outOf = comparedBy S A B
+
+      outOf3 : Offset → ℕ
+      outOf3 = comparedBy S A3 B3
+
+      full : Aligned
+      full = alignedIn preferred S first second g0
+
+      full-is : full ≡ level preferred count outOf (added (under .offset) (under .offset)) (under .counts) (under .compared)
       full-is = pair-more preferred rule (S .percentile) (S .s) (S .w) (S .h) A B some
 
       kept : (m : ℕ) → m < 2 * (S .w * S .h) → getD (returned S g2 p′) m 0 ≡ getD g0 m 0
       kept m l = before-part (2 * (S .w * S .h)) m g2 p′ long l ∙ untouched m l
 
+      first-same : SameFrame (S .w) (S .h) A3 A
+      first-same = frame-same (S .w) (S .h) first (returned S g2 p′) g0 one kept
+
+      second-same : SameFrame (S .w) (S .h) B3 B
+      second-same = frame-same (S .w) (S .h) second (returned S g2 p′) g0 two kept
+
       counts-same : count3 ≡ count
-      counts-same =
-          count-ext rule (S .percentile) (S .w) (S .h) (frameOf (S .w) (drop first (returned S g2 p′))) A (frameOf (S .w) (drop second (returned S g2 p′))) B
-          (frame-same (S .w) (S .h) first (returned S g2 p′) g0 one kept) (frame-same (S .w) (S .h) second (returned S g2 p′) g0 two kept)
+      counts-same = count-ext rule (S .percentile) (S .w) (S .h) A3 A B3 B first-same second-same
+
+      out-of-same : outOf3 ≡ outOf
+      out-of-same = compared-at-ext rule (S .percentile) (S .w) (S .h) A3 A B3 B first-same second-same
 
       -- the coarser level's answer is that of the halved frames
-      answer-is : alignedIn preferred (coarser S) 0 (S .w / 2 * (S .h / 2)) (remainder S g2) ≡ under
+      answer : Aligned
+      answer = alignedIn preferred (coarser S) 0 (S .w / 2 * (S .h / 2)) (remainder S g2)
+
+      answer-is : answer ≡ under
       answer-is =
           pair-ext preferred rule (S .percentile) (S .s - 1) (S .w / 2) (S .h / 2)
           (frameOf (S .w / 2) (drop 0 (remainder S g2))) (halved A) (frameOf (S .w / 2) (drop (S .w / 2 * (S .h / 2)) (remainder S g2))) (halved B)
@@ -194,40 +235,39 @@ module _ (preferred : List Offset) (S : Setup) (first second : ℕ) (g0 g1 g2 : 
       centre-is : centre ≡ added (under .offset) (under .offset)
       centre-is = c ∙ ap (λ (m : Offset). added m m) (below .offset ∙ ap (λ (a : Aligned). a .offset) answer-is)
 
-      fewer : 9 * (S .s - 1 + 1) ≡ 9 * S .s
-      fewer = omega arith
+      -- either list: the coarser level's, and nine numbers after it
+      together : (list : Aligned → List ℕ) (number number3 : Offset → ℕ) (before mid after : List ℕ) → number3 ≡ number
+          → list full ≡ list under ++ map number (map (added (added (under .offset) (under .offset))) wardOrder) → length (list under) ≡ 9 * (S .s - 1 + 1)
+          → RowAt at (λ k. getD (list answer) k 0) before (9 * (S .s - 1 + 1)) mid → RowAt place (nineOf number3 centre) mid 9 after
+          → RowAt at (λ k. getD (list full) k 0) before (9 * (S .s + 1)) after
+      together list number number3 before mid after same is long′ low high =
+          rw total (row-join at (λ k. getD (list full) k 0) (nineOf number3 centre) before mid after (9 * S .s) 9 lower (rw (sym d) high) later)
+        where
+          total : 9 * (S .s + 1) ≡ 9 * S .s + 9
+          total = omega arith
 
-      size : length (under .counts) ≡ 9 * S .s
-      size = counts-length preferred rule (S .percentile) (S .s - 1) (S .w / 2) (S .h / 2) (halved A) (halved B) ∙ fewer
+          fewer : 9 * (S .s - 1 + 1) ≡ 9 * S .s
+          fewer = omega arith
 
-      nine : List ℕ
-      nine = map count (map (added (added (under .offset) (under .offset))) wardOrder)
+          nine : List ℕ
+          nine = map number (map (added (added (under .offset) (under .offset))) wardOrder)
 
-      full-at : (k : ℕ) → countOf (alignedIn preferred S first second g0) k ≡ getD (under .counts ++ nine) k 0
-      full-at k = ap (λ (a : Aligned). getD (a .counts) k 0) full-is
+          full-at : (k : ℕ) → getD (list full) k 0 ≡ getD (list under ++ nine) k 0
+          full-at k = ap (λ (m : List ℕ). getD m k 0) is
 
-      lower : RowAt at (countOf (alignedIn preferred S first second g0)) counts (9 * S .s) counts1
-      lower =
-          row-ext at (countOf (alignedIn preferred (coarser S) 0 (S .w / 2 * (S .h / 2)) (remainder S g2))) (countOf (alignedIn preferred S first second g0)) counts counts1 (9 * S .s)
-          (λ k l.
-          ap (λ (a : Aligned). getD (a .counts) k 0) answer-is
-          ∙ sym (List·getD-append (under .counts) nine 0 k (let e = size in omega arith))
-          ∙ sym (full-at k))
-          (rw fewer at (below .written))
+          lower : RowAt at (λ k. getD (list full) k 0) before (9 * S .s) mid
+          lower =
+              row-ext at (λ k. getD (list answer) k 0) (λ k. getD (list full) k 0) before mid (9 * S .s)
+              (λ k l. ap (λ (a : Aligned). getD (list a) k 0) answer-is ∙ sym (List·getD-append (list under) nine 0 k (omega arith)) ∙ sym (full-at k))
+              (rw fewer at low)
 
-      upper : RowAt (at + 9 * S .s) (nineOf count3 centre) counts1 9 counts2
-      upper = rw (sym d) (here .counts)
-
-      later : (j : ℕ) → j < 9 → nineOf count3 centre j ≡ countOf (alignedIn preferred S first second g0) (9 * S .s + j)
-      later j l =
-          ap₂ (λ (f : Offset → ℕ) (m : Offset). nineOf f m j) counts-same centre-is
-          ∙ sym (nine-at count (added (under .offset) (under .offset)) j l)
-          ∙ sym (getD-append-add (under .counts) nine j 0)
-          ∙ ap (λ (n : ℕ). getD (under .counts ++ nine) (n + j) 0) size
-          ∙ sym (full-at (9 * S .s + j))
-
-      total : 9 * (S .s + 1) ≡ 9 * S .s + 9
-      total = omega arith
+          later : (j : ℕ) → j < 9 → nineOf number3 centre j ≡ getD (list full) (9 * S .s + j) 0
+          later j l =
+              ap₂ (λ (f : Offset → ℕ) (m : Offset). nineOf f m j) same centre-is
+              ∙ sym (nine-at number (added (under .offset) (under .offset)) j l)
+              ∙ sym (getD-append-add (list under) nine j 0)
+              ∙ ap (λ (n : ℕ). getD (list under ++ nine) (n + j) 0) (long′ ∙ fewer)
+              ∙ sym (full-at (9 * S .s + j))
 
 -- Offsets stay small, so that doubling fits.
 pub coarse-near : (places : List ℕ) (S : Setup) (a b : Frame) (m : Offset) → S .s ≤ 8

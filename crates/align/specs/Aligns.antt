@@ -28,13 +28,17 @@ pub record Frames (first second : ℕ) (S : Setup) (memory : ℕ) : Type 0 where
 abbrev pub alignedIn : List Offset → Setup → ℕ → ℕ → List ℕ → Aligned
 alignedIn preferred S first second grey = alignedBy preferred S (frameOf (S .w) (drop first grey)) (frameOf (S .w) (drop second grey))
 
--- k-th count of an answer
+-- k-th count of an answer, and k-th compared number
 abbrev pub countOf : Aligned → ℕ → ℕ
 countOf answer k = getD (answer .counts) k 0
 
-pub record Aligns (preferred : List Offset) (S : Setup) (first second at : ℕ) (grey grey′ counts counts′ : List ℕ) (r : Offset) : Type 0 where
+abbrev pub comparedOf : Aligned → ℕ → ℕ
+comparedOf answer k = getD (answer .compared) k 0
+
+pub record Aligns (preferred : List Offset) (S : Setup) (first second at : ℕ) (grey grey′ counts counts′ compared compared′ : List ℕ) (r : Offset) : Type 0 where
   pub offset : r ≡ alignedIn preferred S first second grey .offset
-  -- the 9·(s + 1) counts stand from place `at` on
-  pub written : RowAt at (countOf (alignedIn preferred S first second grey)) counts (9 * (S .s + 1)) counts′
+  -- the 9·(s + 1) counts stand from place `at` on, and so do the compared numbers
+  pub countsWritten : RowAt at (countOf (alignedIn preferred S first second grey)) counts (9 * (S .s + 1)) counts′
+  pub comparedWritten : RowAt at (comparedOf (alignedIn preferred S first second grey)) compared (9 * (S .s + 1)) compared′
   -- the two frames are still there
   pub kept : (m : ℕ) → m < 2 * (S .w * S .h) → getD grey′ m 0 ≡ getD grey m 0

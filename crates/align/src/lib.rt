@@ -21,18 +21,19 @@ pub fn align_frames(
     setup: Setup,
     words: &mut [u64],
     counts: &mut [u32],
+    compared: &mut [u32],
     at: usize,
     order: &[usize; 9],
     table: &[u8; 256],
 ) -> Offset
     requires frames { ⌜ Frames first second setup (length (now grey)) ⌝ }
     requires room { ⌜ 6 * (rowWords (setup .w) * setup .h) ≤ length (now words) ⌝ }
-    requires levels { ⌜ at + 9 * (setup .s + 1) ≤ length (now counts) ⌝ }
+    requires levels { ⌜ (at + 9 * (setup .s + 1) ≤ length (now counts)) × (at + 9 * (setup .s + 1) ≤ length (now compared)) ⌝ }
     requires order { ⌜ Arrangement (now order) ⌝ }
     requires table { ⌜ CountsBits (now table) ⌝ }
     ensures { λ r. ⌜
         Aligns (arranged (now (order .entry))) setup first second at
-        (now (grey .entry)) (now (grey .exit)) (now (counts .entry)) (now (counts .exit)) r
+        (now (grey .entry)) (now (grey .exit)) (now (counts .entry)) (now (counts .exit)) (now (compared .entry)) (now (compared .exit)) r
         ⌝ }
 {
     let Setup {
@@ -52,6 +53,7 @@ pub fn align_frames(
             words,
             origin,
             counts,
+            compared,
             at,
             order,
             table,
@@ -75,6 +77,7 @@ pub fn align_frames(
         half,
         words,
         counts,
+        compared,
         at,
         order,
         table,
@@ -89,6 +92,7 @@ pub fn align_frames(
         words,
         centre,
         counts,
+        compared,
         place,
         order,
         table,

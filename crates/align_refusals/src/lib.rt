@@ -39,10 +39,11 @@ pub fn pair_refusal(
     first: usize,
     second: usize,
     counts: usize,
+    compared: usize,
     grey: usize,
     words: usize,
 ) -> u32
-    ensures { λ r. ⌜ r ≡ pairRefusal w h s excluded percentile first second counts grey words ⌝ }
+    ensures { λ r. ⌜ r ≡ pairRefusal w h s excluded percentile first second counts compared grey words ⌝ }
 {
     let shape = shape_refusal(w, h, s);
     if shape != 0 {
@@ -54,7 +55,7 @@ pub fn pair_refusal(
         excluded,
         percentile: bad_percentile(percentile),
         length: (first != raster) | (second != raster),
-        room: counts < pair,
+        room: (counts < pair) | (compared < pair),
         memory: short_memory(w, h, s, grey, words),
         ..NONE
     })
@@ -71,10 +72,11 @@ pub fn series_refusal(
     rasters: usize,
     offsets: usize,
     counts: usize,
+    compared: usize,
     grey: usize,
     words: usize,
 ) -> u32
-    ensures { λ k. ⌜ k ≡ seriesRefusal w h s excluded n r (now (percentiles .entry)) rasters offsets counts grey words ⌝ }
+    ensures { λ k. ⌜ k ≡ seriesRefusal w h s excluded n r (now (percentiles .entry)) rasters offsets counts compared grey words ⌝ }
 {
     let shape = shape_refusal(w, h, s);
     if shape != 0 {
@@ -97,7 +99,7 @@ pub fn series_refusal(
     lowest(Faults {
         percentile: bad_percentiles(n, percentiles),
         length: rasters != all,
-        room: (offsets < sums) | (counts < pairs),
+        room: (offsets < sums) | ((counts < pairs) | (compared < pairs)),
         memory: short_memory(w, h, s, grey, words),
         ..NONE
     })

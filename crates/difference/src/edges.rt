@@ -1,7 +1,8 @@
 // The words of a row before and after the interior ones: one general function for all of them, and a
 // quick one each for the first and the last word of a row that is moved by less than a word.
 
-use popcount::table::word_count;
+use tallies::Words;
+use tallies::word_tally;
 use words::BIAS_WORDS;
 use words::WORD_BITS;
 use words::moved_word;
@@ -15,7 +16,7 @@ ghost use Rattle.words.specs.Rows.{biasWords};
 ghost use Rattle.words.specs.Moves.{Moves};
 ghost use Rattle.popcount.specs.Table.{CountsBits};
 ghost use Rattle.popcount.specs.RowCounts.{Adds};
-ghost use Rattle.differing.specs.RowDifferences.{movedDiffer, RowsIn};
+ghost use Rattle.differing.specs.RowDifferences.{movedTally, RowsIn};
 
 // One word near an edge of a row, where partners can lie outside and bits past w be in the way.
 fn edge_word(
@@ -28,22 +29,20 @@ fn edge_word(
     m: Move,
     k: usize,
     table: &[u8; 256],
-) -> u32
+) -> u64
     requires moves { ⌜ Moves m ⌝ }
     requires here { ⌜ k < m .n ⌝ }
     requires rows { ⌜ RowsIn (now t1) (now e1) (now t2) (now e2) base from (m .w) ⌝ }
     requires table { ⌜ CountsBits (now table) ⌝ }
-    ensures { λ r. ⌜ Adds (movedDiffer (now (t1 .entry)) (now (e1 .entry)) (now (t2 .entry)) (now (e2 .entry)) base from m) k (k + 1) r ⌝ }
+    ensures { λ r. ⌜ Adds (movedTally (now (t1 .entry)) (now (e1 .entry)) (now (t2 .entry)) (now (e2 .entry)) base from m) k (k + 1) r ⌝ }
 {
     let at = k + BIAS_WORDS;
     let kept = row_word(e1, base, m.w, k) & moved_word(e2, from, m.w, at, m.q, m.r);
     if kept == 0 {
         return 0;
     }
-    word_count(
-        (t1[base + k] ^ moved_word(t2, from, m.w, at, m.q, m.r)) & kept,
-        table,
-    )
+    let differing = (t1[base + k] ^ moved_word(t2, from, m.w, at, m.q, m.r)) & kept;
+    word_tally(Words { differing, kept }, table)
 }
 
 // The row's first word moved by less than a word to the right: it is full, and no word stands before it.
@@ -57,16 +56,17 @@ fn first_word(
     m: Move,
     k: usize,
     table: &[u8; 256],
-) -> u32
+) -> u64
     requires moves { ⌜ Moves m ⌝ }
     requires here { ⌜ (m .q ≡ k + biasWords) × ((k + 1) * wordBits ≤ m .w) ⌝ }
     requires rows { ⌜ RowsIn (now t1) (now e1) (now t2) (now e2) base from (m .w) ⌝ }
     requires table { ⌜ CountsBits (now table) ⌝ }
-    ensures { λ r. ⌜ Adds (movedDiffer (now (t1 .entry)) (now (e1 .entry)) (now (t2 .entry)) (now (e2 .entry)) base from m) k (k + 1) r ⌝ }
+    ensures { λ r. ⌜ Adds (movedTally (now (t1 .entry)) (now (e1 .entry)) (now (t2 .entry)) (now (e2 .entry)) base from m) k (k + 1) r ⌝ }
 {
     let i = base + k;
     let kept = e1[i] & (e2[from] << m.r);
-    word_count((t1[i] ^ (t2[from] << m.r)) & kept, table)
+    let differing = (t1[i] ^ (t2[from] << m.r)) & kept;
+    word_tally(Words { differing, kept }, table)
 }
 
 // The row's last word moved by at most a word to the left: no word stands after it. Partners lie to the
@@ -81,16 +81,17 @@ fn last_word(
     m: Move,
     k: usize,
     table: &[u8; 256],
-) -> u32
+) -> u64
     requires moves { ⌜ Moves m ⌝ }
     requires here { ⌜ (m .q + 1 ≡ biasWords) × (k + 1 ≡ m .n) ⌝ }
     requires rows { ⌜ RowsIn (now t1) (now e1) (now t2) (now e2) base from (m .w) ⌝ }
     requires table { ⌜ CountsBits (now table) ⌝ }
-    ensures { λ r. ⌜ Adds (movedDiffer (now (t1 .entry)) (now (e1 .entry)) (now (t2 .entry)) (now (e2 .entry)) base from m) k (k + 1) r ⌝ }
+    ensures { λ r. ⌜ Adds (movedTally (now (t1 .entry)) (now (e1 .entry)) (now (t2 .entry)) (now (e2 .entry)) base from m) k (k + 1) r ⌝ }
 {
     let i = base + k;
     let kept = e1[i] & joined_word(0, row_word(e2, from, m.w, k), m.r);
-    word_count((t1[i] ^ joined_word(0, t2[from + k], m.r)) & kept, table)
+    let differing = (t1[i] ^ joined_word(0, t2[from + k], m.r)) & kept;
+    word_tally(Words { differing, kept }, table)
 }
 
 // The words of a row from `first` up to `end`, which need not be interior.
@@ -105,20 +106,20 @@ fn edge_words(
     first: usize,
     end: usize,
     table: &[u8; 256],
-) -> u32
+) -> u64
     requires moves { ⌜ Moves m ⌝ }
     requires span { ⌜ (first ≤ end) × (end ≤ m .n) ⌝ }
     requires rows { ⌜ RowsIn (now t1) (now e1) (now t2) (now e2) base from (m .w) ⌝ }
     requires table { ⌜ CountsBits (now table) ⌝ }
-    ensures { λ r. ⌜ Adds (movedDiffer (now (t1 .entry)) (now (e1 .entry)) (now (t2 .entry)) (now (e2 .entry)) base from m) first end r ⌝ }
+    ensures { λ r. ⌜ Adds (movedTally (now (t1 .entry)) (now (e1 .entry)) (now (t2 .entry)) (now (e2 .entry)) base from m) first end r ⌝ }
 {
-    let mut count: u32 = 0;
+    let mut both: u64 = 0;
     let mut k = first;
     while k < end {
-        count += edge_word(t1, e1, t2, e2, base, from, m, k, table);
+        both += edge_word(t1, e1, t2, e2, base, from, m, k, table);
         k += 1;
     }
-    count
+    both
 }
 
 // The words on either side of the interior, one by one. Each side has a function of its own, small
@@ -132,11 +133,11 @@ fn words_before(
     from: usize,
     m: Move,
     table: &[u8; 256],
-) -> u32
+) -> u64
     requires moves { ⌜ Moves m ⌝ }
     requires rows { ⌜ RowsIn (now t1) (now e1) (now t2) (now e2) base from (m .w) ⌝ }
     requires table { ⌜ CountsBits (now table) ⌝ }
-    ensures { λ r. ⌜ Adds (movedDiffer (now (t1 .entry)) (now (e1 .entry)) (now (t2 .entry)) (now (e2 .entry)) base from m) 0 (m .first) r ⌝ }
+    ensures { λ r. ⌜ Adds (movedTally (now (t1 .entry)) (now (e1 .entry)) (now (t2 .entry)) (now (e2 .entry)) base from m) 0 (m .first) r ⌝ }
 {
     edge_words(t1, e1, t2, e2, base, from, m, 0, m.first, table)
 }
@@ -150,11 +151,11 @@ fn words_after(
     from: usize,
     m: Move,
     table: &[u8; 256],
-) -> u32
+) -> u64
     requires moves { ⌜ Moves m ⌝ }
     requires rows { ⌜ RowsIn (now t1) (now e1) (now t2) (now e2) base from (m .w) ⌝ }
     requires table { ⌜ CountsBits (now table) ⌝ }
-    ensures { λ r. ⌜ Adds (movedDiffer (now (t1 .entry)) (now (e1 .entry)) (now (t2 .entry)) (now (e2 .entry)) base from m) (m .end) (m .n) r ⌝ }
+    ensures { λ r. ⌜ Adds (movedTally (now (t1 .entry)) (now (e1 .entry)) (now (t2 .entry)) (now (e2 .entry)) base from m) (m .end) (m .n) r ⌝ }
 {
     edge_words(t1, e1, t2, e2, base, from, m, m.end, m.n, table)
 }
@@ -170,11 +171,11 @@ pub fn left_edge(
     from: usize,
     m: Move,
     table: &[u8; 256],
-) -> u32
+) -> u64
     requires moves { ⌜ Moves m ⌝ }
     requires rows { ⌜ RowsIn (now t1) (now e1) (now t2) (now e2) base from (m .w) ⌝ }
     requires table { ⌜ CountsBits (now table) ⌝ }
-    ensures { λ r. ⌜ Adds (movedDiffer (now (t1 .entry)) (now (e1 .entry)) (now (t2 .entry)) (now (e2 .entry)) base from m) 0 (m .first) r ⌝ }
+    ensures { λ r. ⌜ Adds (movedTally (now (t1 .entry)) (now (e1 .entry)) (now (t2 .entry)) (now (e2 .entry)) base from m) 0 (m .first) r ⌝ }
 {
     if m.first == 0 {
         return 0;
@@ -195,11 +196,11 @@ pub fn right_edge(
     from: usize,
     m: Move,
     table: &[u8; 256],
-) -> u32
+) -> u64
     requires moves { ⌜ Moves m ⌝ }
     requires rows { ⌜ RowsIn (now t1) (now e1) (now t2) (now e2) base from (m .w) ⌝ }
     requires table { ⌜ CountsBits (now table) ⌝ }
-    ensures { λ r. ⌜ Adds (movedDiffer (now (t1 .entry)) (now (e1 .entry)) (now (t2 .entry)) (now (e2 .entry)) base from m) (m .end) (m .n) r ⌝ }
+    ensures { λ r. ⌜ Adds (movedTally (now (t1 .entry)) (now (e1 .entry)) (now (t2 .entry)) (now (e2 .entry)) base from m) (m .end) (m .n) r ⌝ }
 {
     if m.end == m.n {
         return 0;

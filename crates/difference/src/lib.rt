@@ -1,4 +1,4 @@
-// The difference count of two frames' four lent bitmaps.
+// The difference count and the compared number of two frames' four lent bitmaps.
 
 pub mod edges;
 pub mod interior;
@@ -6,12 +6,13 @@ pub mod row_differences;
 
 use frame_refusals::difference_refusal;
 use popcount::table::bit_counts;
-use row_differences::difference_frame;
-use rules::Counted;
+use row_differences::tally_frame;
+use rules::Tallied;
+use tallies::split;
 ghost use mathlib.Core.Path.{_≡_};
 ghost use Rattle.rules.specs.Calls.{differenceAnswer};
 
-// The difference count of two frames' four lent bitmaps at any two signed numbers.
+// Both, of two frames of w by h pixels, at any two signed numbers.
 pub fn difference(
     w: usize,
     h: usize,
@@ -21,7 +22,7 @@ pub fn difference(
     exclusion1: &[u64],
     threshold2: &[u64],
     exclusion2: &[u64],
-) -> Counted
+) -> Tallied
     ensures { λ r. ⌜ r ≡ differenceAnswer w h dx dy (now (threshold1 .entry)) (now (exclusion1 .entry)) (now (threshold2 .entry)) (now (exclusion2 .entry)) ⌝ }
 {
     let number = difference_refusal(
@@ -33,10 +34,10 @@ pub fn difference(
         exclusion2.len(),
     );
     if number != 0 {
-        return Counted::Refused(number);
+        return Tallied::Refused(number);
     }
     let table = bit_counts();
-    Counted::Count(difference_frame(
+    let both = tally_frame(
         w,
         h,
         dx,
@@ -46,5 +47,6 @@ pub fn difference(
         threshold2,
         exclusion2,
         &table,
-    ))
+    );
+    Tallied::Tally(split(both))
 }

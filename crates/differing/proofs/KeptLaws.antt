@@ -14,12 +14,20 @@ use Rattle.words.specs.Moves.{movedBit}
 use Rattle.words.proofs.BitLaws.{bit-and}
 use Rattle.words.proofs.MoveLaws.{row-past, back-at, back-under}
 use Rattle.words.proofs.JoinLaws.{WordIn, raw-word}
-use Rattle.popcount.proofs.AdderLaws.{Bit, number-case}
+use Rattle.differing.specs.RowDifferences.{bothKept, rowKept}
+use Rattle.popcount.proofs.AdderLaws.{Bit, off, on, number-case}
 use Rattle.popcount.proofs.RowLaws.{rowBit-lt}
 
--- 1 where both exclusion bits are 1
+-- whether both pixels are kept, as a word's bit tells it
 abbrev pub keptBit : List ℕ → List ℕ → ℕ → ℕ → ℕ → ℕ → ℕ → ℕ
 keptBit e1 e2 base from w d x = min (rowBit e1 base w x) (movedBit e2 from w d x)
+
+pub masked-kept : {e1 e2 : ℕ} → Bit e1 → Bit e2 → min e1 e2 ≡ bothKept e1 e2
+unfolding bothKept
+masked-kept off off = refl
+masked-kept off on = refl
+masked-kept on off = refl
+masked-kept on on = refl
 
 pub row-case : (words : List ℕ) (base w x : ℕ) → Bit (rowBit words base w x)
 row-case words base w x = number-case (rowBit words base w x) (rowBit-lt words base w x)
@@ -28,6 +36,10 @@ pub moved-case : (words : List ℕ) (from w d x : ℕ) → Bit (movedBit words f
 unfolding movedBit back
 moved-case words from w d x =
     number-case (back (rowBit words from w) d (bias + x)) (gate-small (leb d (bias + x)) (rowBit words from w (bias + x - d)) (rowBit-lt words from w (bias + x - d)))
+
+pub kept-is : (e1 e2 : List ℕ) (base from w d x : ℕ) → keptBit e1 e2 base from w d x ≡ rowKept e1 e2 base from w d x
+unfolding rowKept
+kept-is e1 e2 base from w d x = masked-kept (row-case e1 base w x) (moved-case e2 from w d x)
 
 module _ (e1 e2 : List ℕ) (base from w d x : ℕ) (e : keptBit e1 e2 base from w d x ≡ 1) where
   pub kept-first : x < w

@@ -1,3 +1,3 @@
--- Laws of the difference of two frames.
+-- Laws of the tally of two frames.
 pub mod KeptLaws
 pub mod DifferLaws

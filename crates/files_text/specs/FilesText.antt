@@ -20,7 +20,7 @@ greyLent = 65536
 abbrev pub wordsLent : ℕ
 wordsLent = 8192
 
--- and counts for the most levels that there can be
+-- and counts for the most levels that there can be, and as many compared numbers
 abbrev pub countsLent : ℕ
 countsLent = countsLength maxHalvings
 
@@ -37,7 +37,7 @@ bracketRefusal s tolerance percentile first second =
     p6Refusal first
     orElse p6Refusal second
     orElse pairRefusal (sizeIn (headerOf first) .w) (sizeIn (headerOf first) .h) s (toleranceRefusal tolerance) percentile
-    (length (rasterOf first)) (length (secondRaster first second)) countsLent greyLent wordsLent
+    (length (rasterOf first)) (length (secondRaster first second)) countsLent countsLent greyLent wordsLent
 
 -- the text for a refusal number, or where there is none
 unfoldable pub answerText : ℕ → List ℕ → List ℕ

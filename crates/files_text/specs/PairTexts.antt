@@ -15,7 +15,7 @@ use Rattle.files_text.specs.FilesText.{countsLent, greyLent, wordsLent, 
 -- the pair call's refusal number, and whether it aligns
 abbrev pub lentRefusal : Size → ℕ → ℕ → ℕ → List ℕ → List ℕ → ℕ
 lentRefusal size s tolerance percentile first second =
-    pairRefusal (size .w) (size .h) s (toleranceRefusal tolerance) percentile (length first) (length second) countsLent greyLent wordsLent
+    pairRefusal (size .w) (size .h) s (toleranceRefusal tolerance) percentile (length first) (length second) countsLent countsLent greyLent wordsLent
 
 abbrev pub pairAligns : Size → ℕ → ℕ → ℕ → List ℕ → List ℕ → Bool
 pairAligns size s tolerance percentile first second = eqb (lentRefusal size s tolerance percentile first second) 0

@@ -18,7 +18,7 @@ pub const WORDS_LENT: usize = 8192;
 
 pub const OUTPUT_LENT: usize = 1024;
 
-// Counts for the most levels that there can be.
+// Counts for the most levels that there can be, and as many compared numbers, which are not printed.
 const MAX_COUNTS: usize = 81;
 
 // The second file's raster as the pair call gets it. A frame of another size than the first one's
@@ -54,6 +54,7 @@ fn put_pair(
         ⌝ }
 {
     let mut counts = [0u32; MAX_COUNTS];
+    let mut compared = [0u32; MAX_COUNTS];
     let answer = pair::pair_ward(
         size.w,
         size.h,
@@ -63,6 +64,7 @@ fn put_pair(
         first,
         second,
         &mut counts,
+        &mut compared,
         grey,
         words,
     );

@@ -1,2 +1,2 @@
--- Laws of a level's counts and of its choice.
+-- Laws of a level's numbers and of its choice.
 pub mod ChoiceLaws

@@ -15,11 +15,11 @@ ghost use Rattle.rules.specs.Bitmaps.{rowWords};
 ghost use Rattle.rules.specs.Levels.{Arrangement, arranged, Near};
 ghost use Rattle.popcount.specs.Table.{CountsBits};
 ghost use Rattle.level_planes.specs.FrameSides.{Sides};
-ghost use Rattle.level.specs.Choices.{countBy, LevelAligned};
+ghost use Rattle.level.specs.Choices.{countBy, comparedBy, LevelAligned};
 
-// The level of the frames that begin at places `first` and `second`: its nine counts from place `at`
-// on, and its offset, the first least in the given order. The table of bit counts and the order are
-// taken once by the caller.
+// The level of the frames that begin at places `first` and `second`: its nine counts and compared
+// numbers from place `at` on, and its offset, the first with the least count in the given order. The
+// table of bit counts and the order are taken once by the caller.
 pub fn align_level(
     grey: &[u8],
     first: usize,
@@ -28,6 +28,7 @@ pub fn align_level(
     words: &mut [u64],
     centre: Offset,
     counts: &mut [u32],
+    compared: &mut [u32],
     at: usize,
     order: &[usize; 9],
     table: &[u8; 256],
@@ -37,13 +38,14 @@ pub fn align_level(
     requires frames { ⌜ (first + setup .w * setup .h ≤ length (now grey)) × (second + setup .w * setup .h ≤ length (now grey)) ⌝ }
     requires room { ⌜ 6 * (rowWords (setup .w) * setup .h) ≤ length (now words) ⌝ }
     requires near { ⌜ Near maxCentre centre ⌝ }
-    requires nine { ⌜ at + 9 ≤ length (now counts) ⌝ }
+    requires nine { ⌜ (at + 9 ≤ length (now counts)) × (at + 9 ≤ length (now compared)) ⌝ }
     requires order { ⌜ Arrangement (now order) ⌝ }
     requires table { ⌜ CountsBits (now table) ⌝ }
     ensures { λ r. ⌜
         LevelAligned (arranged (now (order .entry)))
         (countBy setup (frameOf (setup .w) (drop first (now (grey .entry)))) (frameOf (setup .w) (drop second (now (grey .entry)))))
-        centre at (now (counts .entry)) (now (counts .exit)) r
+        (comparedBy setup (frameOf (setup .w) (drop first (now (grey .entry)))) (frameOf (setup .w) (drop second (now (grey .entry)))))
+        centre at (now (counts .entry)) (now (counts .exit)) (now (compared .entry)) (now (compared .exit)) r
         ⌝ }
 {
     let Setup {
@@ -56,7 +58,7 @@ pub fn align_level(
     let n = bitmap_words(w, h);
     bitmaps_within(grey, first, setup, words, 0);
     bitmaps_within(grey, second, setup, words, 2 * n);
-    nine_counts(words, w, h, centre, counts, at, table);
+    nine_counts(words, w, h, centre, counts, compared, at, table);
     let rank = first_least(counts, at, order);
     let place = order[rank];
     candidate(centre, place)

@@ -1,2 +1,2 @@
--- The counts of a level.
+-- The numbers of a level at its nine candidates.
 pub mod NineCounts

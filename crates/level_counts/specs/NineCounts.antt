@@ -1,12 +1,12 @@
--- The counts at the nine candidates.
+-- Numbers at the nine candidates.
 use Prim.Native.Nat.{ℕ, _+_, _*_}
 use Rattle.rules.specs.Levels.{candidateAt}
 use Rattle.rules.specs.declared.Offset.{Offset}
 
--- the count at candidate k around a centre
+-- the number at candidate k around a centre
 abbrev pub nineOf : (Offset → ℕ) → Offset → ℕ → ℕ
-nineOf count centre k = count (candidateAt centre k)
+nineOf number centre k = number (candidateAt centre k)
 
 -- the same in column i of the candidates, whose dx is one: candidate j of its three
 abbrev pub columnOf : (Offset → ℕ) → Offset → ℕ → ℕ → ℕ
-columnOf count centre i j = nineOf count centre (3 * i + j)
+columnOf number centre i j = nineOf number centre (3 * i + j)

@@ -7,10 +7,12 @@ use lib.IntN.{ℤ}
 use lib.ListN.{length}
 use Rattle.rules.specs.declared.Written.{Written}
 use Rattle.rules.specs.declared.Counted.{Counted}
+use Rattle.rules.specs.declared.Tally.{Tally}
+use Rattle.rules.specs.declared.Tallied.{Tallied}
 use Rattle.rules.specs.declared.Thresholded.{Thresholded}
 use Rattle.rules.specs.declared.Offset.{Offset}
 use Rattle.rules.specs.declared.Paired.{Paired}
-use Rattle.rules.specs.Answers.{written, counted, thresholded, paired}
+use Rattle.rules.specs.Answers.{written, counted, tallied, thresholded, paired}
 use Rattle.rules.specs.Levels.{Aligned}
 use Rattle.rules.specs.Series.{Answer}
 use Rattle.rules.specs.Calls.{Fills, BitmapsLeft, PairLeft, SeriesLeft}
@@ -59,6 +61,14 @@ counted-count (suc k) v x e = let z : _≡_ {A = ℕ} 0 1 = cc in absurd (omega 
 pub counted-refused : (k v n : ℕ) → Counted.Refused n ≡ counted k v → (n ≡ k) × (n ≡ 0 → ⊥)
 counted-refused zero v n e = let z : _≡_ {A = ℕ} 0 1 = cc in absurd (omega arith)
 counted-refused (suc k) v n e = let d : n ≡ suc k = cc in (d, λ z. omega arith)
+
+pub tallied-tally : (k : ℕ) (v x : Tally) → Tallied.Tally x ≡ tallied k v → (0 ≡ k) × (x ≡ v)
+tallied-tally zero v x e = (refl, cc)
+tallied-tally (suc k) v x e = let z : _≡_ {A = ℕ} 0 1 = cc in absurd (omega arith)
+
+pub tallied-refused : (k : ℕ) (v : Tally) (n : ℕ) → Tallied.Refused n ≡ tallied k v → (n ≡ k) × (n ≡ 0 → ⊥)
+tallied-refused zero v n e = let z : _≡_ {A = ℕ} 0 1 = cc in absurd (omega arith)
+tallied-refused (suc k) v n e = let d : n ≡ suc k = cc in (d, λ z. omega arith)
 
 pub thresholded-at : (k v x : ℕ) → Thresholded.At x ≡ thresholded k v → (0 ≡ k) × (x ≡ v)
 thresholded-at zero v x e = (refl, cc)
@@ -109,13 +119,13 @@ row-refused zero v n e = let z : _≡_ {A = ℕ} 0 1 = cc in absurd (omega arith
 row-refused (suc k) v n e = let d : n ≡ suc k = cc in (d, λ z. omega arith)
 
 -- What a call leaves, by the number that C gets in the place of its answer.
-pub pair-left : (number : ℕ) (result : Aligned) (counts counts′ grey grey′ words words′ : List ℕ) (r : Paired) (n : ℕ) (before after : Offset)
-    → PairLeft number result counts counts′ grey grey′ words words′ r → after ≡ offsetAfter r before → n ≡ pairRefusalIn r
-    → PairLeft number result counts counts′ grey grey′ words words′ (paired n after) × ((n ≡ 0 → ⊥) → after ≡ before)
-pair-left number result counts counts′ grey grey′ words words′ (Paired.Moved m) n before after left o e = (rw (e, o) left, λ f. absurd (f e))
-pair-left number result counts counts′ grey grey′ words words′ (Paired.Refused k) n before after left o e =
+pub pair-left : (number : ℕ) (result : Aligned) (counts counts′ compared compared′ grey grey′ words words′ : List ℕ) (r : Paired) (n : ℕ) (before after : Offset)
+    → PairLeft number result counts counts′ compared compared′ grey grey′ words words′ r → after ≡ offsetAfter r before → n ≡ pairRefusalIn r
+    → PairLeft number result counts counts′ compared compared′ grey grey′ words words′ (paired n after) × ((n ≡ 0 → ⊥) → after ≡ before)
+pair-left number result counts counts′ compared compared′ grey grey′ words words′ (Paired.Moved m) n before after left o e = (rw (e, o) left, λ f. absurd (f e))
+pair-left number result counts counts′ compared compared′ grey grey′ words words′ (Paired.Refused k) n before after left o e =
     let l = paired-refused number (result .offset) k (left .answered) .1 in
-    (rw (e) (subst (PairLeft number result counts counts′ grey grey′ words words′) (refused-is k after l) left), λ f. o)
+    (rw (e) (subst (PairLeft number result counts counts′ compared compared′ grey grey′ words words′) (refused-is k after l) left), λ f. o)
 
 pub fills-left : (number : ℕ) (out before after : List ℕ) (r : Written) (n : ℕ) → Fills number out before after r → n ≡ refusalIn r
     → Fills number out before after (written n)
@@ -142,9 +152,9 @@ pub file-accepted : (number : ℕ) (file out out′ : List ℕ) (r : FileWritten
     → FileLeft number file out out′ (fileWritten 0 u)
 file-accepted number file out out′ r u left e = record { answered = sym e ∙ left .answered; filled = left .filled }
 
-pub series-left : (number : ℕ) (result : Answer) (offsets offsets′ : List ℤ) (counts counts′ grey grey′ words words′ : List ℕ) (r : Written) (n : ℕ)
-    → SeriesLeft number result offsets offsets′ counts counts′ grey grey′ words words′ r → n ≡ refusalIn r
-    → SeriesLeft number result offsets offsets′ counts counts′ grey grey′ words words′ (written n)
-series-left number result offsets offsets′ counts counts′ grey grey′ words words′ r n left e =
-    subst (SeriesLeft number result offsets offsets′ counts counts′ grey grey′ words words′)
+pub series-left : (number : ℕ) (result : Answer) (offsets offsets′ : List ℤ) (counts counts′ compared compared′ grey grey′ words words′ : List ℕ) (r : Written) (n : ℕ)
+    → SeriesLeft number result offsets offsets′ counts counts′ compared compared′ grey grey′ words words′ r → n ≡ refusalIn r
+    → SeriesLeft number result offsets offsets′ counts counts′ compared compared′ grey grey′ words words′ (written n)
+series-left number result offsets offsets′ counts counts′ compared compared′ grey grey′ words words′ r n left e =
+    subst (SeriesLeft number result offsets offsets′ counts counts′ compared compared′ grey grey′ words words′)
     (left .answered ∙ sym (answer-is number n r e (left .answered))) left

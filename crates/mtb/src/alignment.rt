@@ -29,12 +29,14 @@ pub extern "C" fn mtb_pair(
     dx: &mut i32,
     dy: &mut i32,
     counts: &mut [u32],
+    compared: &mut [u32],
     grey: &mut [u8],
     words: &mut [u64],
 ) -> u32
     ensures call { λ n. ⌜
         PairCall leastMoveOrder (toleranceSetup w h s tolerance percentile) (now (first .entry)) (now (second .entry))
-        (now (counts .entry)) (now (counts .exit)) (now (grey .entry)) (now (grey .exit)) (now (words .entry)) (now (words .exit))
+        (now (counts .entry)) (now (counts .exit)) (now (compared .entry)) (now (compared .exit))
+        (now (grey .entry)) (now (grey .exit)) (now (words .entry)) (now (words .exit))
         (paired n (offset (now (dx .exit)) (now (dy .exit))))
         ⌝ }
     ensures refused { λ n. ⌜ ((n ≡ 0 → ⊥) → (now (dx .exit) ≡ now (dx .entry)) × (now (dy .exit) ≡ now (dy .entry))) ⌝ }
@@ -48,6 +50,7 @@ pub extern "C" fn mtb_pair(
         first,
         second,
         counts,
+        compared,
         grey,
         words,
     );
@@ -66,12 +69,13 @@ pub extern "C" fn mtb_series(
     rasters: &[u8],
     offsets: &mut [i32],
     counts: &mut [u32],
+    compared: &mut [u32],
     grey: &mut [u8],
     words: &mut [u64],
 ) -> u32
     ensures { λ k. ⌜
         SeriesCall leastMoveOrder (toleranceSettings w h s tolerance n r (now (percentiles .entry))) (now (rasters .entry))
-        (now (offsets .entry)) (now (offsets .exit)) (now (counts .entry)) (now (counts .exit))
+        (now (offsets .entry)) (now (offsets .exit)) (now (counts .entry)) (now (counts .exit)) (now (compared .entry)) (now (compared .exit))
         (now (grey .entry)) (now (grey .exit)) (now (words .entry)) (now (words .exit)) (written k)
         ⌝ }
 {
@@ -86,6 +90,7 @@ pub extern "C" fn mtb_series(
         rasters,
         offsets,
         counts,
+        compared,
         grey,
         words,
     ))
@@ -103,12 +108,14 @@ pub extern "C" fn mtb_pair_ward(
     dx: &mut i32,
     dy: &mut i32,
     counts: &mut [u32],
+    compared: &mut [u32],
     grey: &mut [u8],
     words: &mut [u64],
 ) -> u32
     ensures call { λ n. ⌜
         PairCall wardOrder (toleranceSetup w h s tolerance percentile) (now (first .entry)) (now (second .entry))
-        (now (counts .entry)) (now (counts .exit)) (now (grey .entry)) (now (grey .exit)) (now (words .entry)) (now (words .exit))
+        (now (counts .entry)) (now (counts .exit)) (now (compared .entry)) (now (compared .exit))
+        (now (grey .entry)) (now (grey .exit)) (now (words .entry)) (now (words .exit))
         (paired n (offset (now (dx .exit)) (now (dy .exit))))
         ⌝ }
     ensures refused { λ n. ⌜ ((n ≡ 0 → ⊥) → (now (dx .exit) ≡ now (dx .entry)) × (now (dy .exit) ≡ now (dy .entry))) ⌝ }
@@ -122,6 +129,7 @@ pub extern "C" fn mtb_pair_ward(
         first,
         second,
         counts,
+        compared,
         grey,
         words,
     );
@@ -140,12 +148,13 @@ pub extern "C" fn mtb_series_ward(
     rasters: &[u8],
     offsets: &mut [i32],
     counts: &mut [u32],
+    compared: &mut [u32],
     grey: &mut [u8],
     words: &mut [u64],
 ) -> u32
     ensures { λ k. ⌜
         SeriesCall wardOrder (toleranceSettings w h s tolerance n r (now (percentiles .entry))) (now (rasters .entry))
-        (now (offsets .entry)) (now (offsets .exit)) (now (counts .entry)) (now (counts .exit))
+        (now (offsets .entry)) (now (offsets .exit)) (now (counts .entry)) (now (counts .exit)) (now (compared .entry)) (now (compared .exit))
         (now (grey .entry)) (now (grey .exit)) (now (words .entry)) (now (words .exit)) (written k)
         ⌝ }
 {
@@ -160,6 +169,7 @@ pub extern "C" fn mtb_series_ward(
         rasters,
         offsets,
         counts,
+        compared,
         grey,
         words,
     ))

@@ -1,16 +1,16 @@
-// Packed bitmaps: packing, shift, counts.
+// Packed bitmaps: packing, shift, total, difference.
 
 ghost use mathlib.Core.Path.{_≡_};
 ghost use lib.ListN.{length};
 ghost use Rattle.rules.specs.Answers.{written};
 ghost use Rattle.rules.specs.Bitmaps.{bitAt};
 ghost use Rattle.rules.specs.Planes.{total};
-ghost use Rattle.rules.specs.Differences.{difference};
 ghost use Rattle.rules.specs.Refusals.{totalRefusal, differenceRefusal};
-ghost use Rattle.rules.specs.Calls.{BitmapsCall, ShiftCall, planesOf};
+ghost use Rattle.rules.specs.Calls.{BitmapsCall, ShiftCall, planesOf, tallyOf};
 ghost use Rattle.c_answers.specs.Values.{valueAfter};
 use c_answers::refusal_in;
 use rules::Counted;
+use rules::Tallied;
 
 #[no_mangle]
 pub extern "C" fn mtb_bitmaps(
@@ -77,6 +77,7 @@ pub extern "C" fn mtb_difference(
     threshold2: &[u64],
     exclusion2: &[u64],
     count: &mut u32,
+    compared: &mut u32,
 ) -> u32
     ensures answer { λ n. ⌜
         n ≡ differenceRefusal w h (length (now (threshold1 .entry))) (length (now (exclusion1 .entry)))
@@ -84,8 +85,13 @@ pub extern "C" fn mtb_difference(
         ⌝ }
     ensures count { λ k. ⌜
         now (count .exit)
-        ≡ valueAfter k (difference w h dx dy (planesOf w h (now (threshold1 .entry)) (now (exclusion1 .entry)))
-        (planesOf w h (now (threshold2 .entry)) (now (exclusion2 .entry)))) (now (count .entry))
+        ≡ valueAfter k (tallyOf w h dx dy (planesOf w h (now (threshold1 .entry)) (now (exclusion1 .entry)))
+        (planesOf w h (now (threshold2 .entry)) (now (exclusion2 .entry))) .count) (now (count .entry))
+        ⌝ }
+    ensures compared { λ k. ⌜
+        now (compared .exit)
+        ≡ valueAfter k (tallyOf w h dx dy (planesOf w h (now (threshold1 .entry)) (now (exclusion1 .entry)))
+        (planesOf w h (now (threshold2 .entry)) (now (exclusion2 .entry))) .compared) (now (compared .entry))
         ⌝ }
 {
     match difference::difference(
@@ -98,10 +104,11 @@ pub extern "C" fn mtb_difference(
         threshold2,
         exclusion2,
     ) {
-        Counted::Count(pixels) => {
-            *count = pixels;
+        Tallied::Tally(tally) => {
+            *count = tally.count;
+            *compared = tally.compared;
             0
         }
-        Counted::Refused(n) => n,
+        Tallied::Refused(n) => n,
     }
 }

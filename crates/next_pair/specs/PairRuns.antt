@@ -15,7 +15,7 @@ use Rattle.rules.specs.Bitmaps.{rowWords}
 use Rattle.rules.specs.Buffers.{RowAt}
 use Rattle.rules.specs.Levels.{Aligned, alignedBy}
 use Rattle.rules.specs.Refusals.{greyNeeded}
-use Rattle.rules.specs.Series.{offsetList, countList}
+use Rattle.rules.specs.Series.{offsetList, joined}
 use Rattle.rules.specs.Accepted.{ShapeOk}
 use Rattle.offsets.specs.PairOffsets.{withOffset}
 
@@ -44,19 +44,20 @@ abbrev pub pairsOf : List Offset → Setup → List ℕ → List ℕ → ℕ →
 pairsOf preferred S percentiles rasters k = pairAt preferred (setupAt S percentiles k) rasters k
 
 -- what pair k needs of the lengths
-pub record Room (S : Setup) (k rasters pairs counts grey words : ℕ) : Type 0 where
+pub record Room (S : Setup) (k rasters pairs counts compared grey words : ℕ) : Type 0 where
   pub shape : ShapeOk (S .w) (S .h) (S .s)
   pub least : 1 ≤ S .percentile
   pub most : S .percentile ≤ 99
   pub frames : k < maxFrames
   pub raster : (k + 1) * (3 * (S .w * S .h)) + 3 * (S .w * S .h) ≤ rasters
   pub offset : 2 * k + 2 ≤ pairs
-  pub places : k * (9 * (S .s + 1)) + 9 * (S .s + 1) ≤ counts
+  pub countPlaces : k * (9 * (S .s + 1)) + 9 * (S .s + 1) ≤ counts
+  pub comparedPlaces : k * (9 * (S .s + 1)) + 9 * (S .s + 1) ≤ compared
   pub greys : greyNeeded (S .s) (S .w) (S .h) ≤ grey
   pub bitmaps : 6 * (rowWords (S .w) * S .h) ≤ words
 
 -- what all pairs of n frames need
-pub record PairsOk (S : Setup) (n : ℕ) (percentiles : List ℕ) (rasters pairs counts grey words : ℕ) : Type 0 where
+pub record PairsOk (S : Setup) (n : ℕ) (percentiles : List ℕ) (rasters pairs counts compared grey words : ℕ) : Type 0 where
   pub shape : ShapeOk (S .w) (S .h) (S .s)
   pub frames : (0 < n) × (n ≤ maxFrames)
   pub percentile : (k : ℕ) → k < n - 1 → (1 ≤ getD percentiles k 0) × (getD percentiles k 0 ≤ 99)
@@ -64,22 +65,26 @@ pub record PairsOk (S : Setup) (n : ℕ) (percentiles : List ℕ) (rasters pairs
   pub exact : rasters ≡ n * (3 * (S .w * S .h))
   pub room1 : 2 * (n - 1) ≤ pairs
   pub room2 : 9 * (S .s + 1) * (n - 1) ≤ counts
+  pub room3 : 9 * (S .s + 1) * (n - 1) ≤ compared
   pub greys : greyNeeded (S .s) (S .w) (S .h) ≤ grey
   pub bitmaps : 6 * (rowWords (S .w) * S .h) ≤ words
 
--- Pair k has run: its offset stands in its place, so do its counts, and frame k + 1's grey in its own for the next pair.
-pub record Ran (S : Setup) (k : ℕ) (rasters : List ℕ) (answer : Aligned) (pairs pairs′ : List ℤ) (counts counts′ grey′ : List ℕ) : Type 0 where
+-- Pair k has run: its offset stands in its place, so do its counts and compared numbers, and frame k + 1's grey in its own for the next pair.
+pub record Ran (S : Setup) (k : ℕ) (rasters : List ℕ) (answer : Aligned) (pairs pairs′ : List ℤ) (counts counts′ compared compared′ grey′ : List ℕ) : Type 0 where
   pub stands : Stands S rasters (k + 1) grey′
   pub offset : pairs′ ≡ withOffset k (answer .offset) pairs
-  pub written : RowAt (k * (9 * (S .s + 1))) (λ i. getD (answer .counts) i 0) counts (9 * (S .s + 1)) counts′
+  pub countsWritten : RowAt (k * (9 * (S .s + 1))) (λ i. getD (answer .counts) i 0) counts (9 * (S .s + 1)) counts′
+  pub comparedWritten : RowAt (k * (9 * (S .s + 1))) (λ i. getD (answer .compared) i 0) compared (9 * (S .s + 1)) compared′
 
 -- The first k pairs of n frames have run.
-pub record Run (S : Setup) (n k : ℕ) (rasters : List ℕ) (answers : ℕ → Aligned) (pairs pairs′ : List ℤ) (counts counts′ grey′ : List ℕ) : Type 0 where
+pub record Run (S : Setup) (n k : ℕ) (rasters : List ℕ) (answers : ℕ → Aligned) (pairs pairs′ : List ℤ) (counts counts′ compared compared′ grey′ : List ℕ) : Type 0 where
   pub stands : Stands S rasters k grey′
   pub offsets : pairs′ ≡ writtenOver (offsetList k (λ j. answers j .offset)) pairs
-  pub written : RowAt 0 (λ i. getD (countList (n - 1) answers) i 0) counts (k * (9 * (S .s + 1))) counts′
+  pub countsWritten : RowAt 0 (λ i. getD (joined (n - 1) (λ j. answers j .counts)) i 0) counts (k * (9 * (S .s + 1))) counts′
+  pub comparedWritten : RowAt 0 (λ i. getD (joined (n - 1) (λ j. answers j .compared)) i 0) compared (k * (9 * (S .s + 1))) compared′
 
 -- All pairs have run.
-pub record AllRan (n : ℕ) (answers : ℕ → Aligned) (pairs pairs′ : List ℤ) (counts counts′ : List ℕ) : Type 0 where
+pub record AllRan (n : ℕ) (answers : ℕ → Aligned) (pairs pairs′ : List ℤ) (counts counts′ compared compared′ : List ℕ) : Type 0 where
   pub offsets : pairs′ ≡ writtenOver (offsetList (n - 1) (λ j. answers j .offset)) pairs
-  pub written : counts′ ≡ writtenOver (countList (n - 1) answers) counts
+  pub countsWritten : counts′ ≡ writtenOver (joined (n - 1) (λ j. answers j .counts)) counts
+  pub comparedWritten : compared′ ≡ writtenOver (joined (n - 1) (λ j. answers j .compared)) compared

@@ -25,18 +25,20 @@ pub fn align_next(
     rasters: &[u8],
     pairs: &mut [i32],
     counts: &mut [u32],
+    compared: &mut [u32],
     grey: &mut [u8],
     words: &mut [u64],
     order: &[usize; 9],
     table: &[u8; 256],
 )
-    requires room { ⌜ Room setup k (length (now rasters)) (length (now pairs)) (length (now counts)) (length (now grey)) (length (now words)) ⌝ }
+    requires room { ⌜ Room setup k (length (now rasters)) (length (now pairs)) (length (now counts)) (length (now compared)) (length (now grey)) (length (now words)) ⌝ }
     requires stands { ⌜ Stands setup (now rasters) k (now grey) ⌝ }
     requires order { ⌜ Arrangement (now order) ⌝ }
     requires table { ⌜ CountsBits (now table) ⌝ }
     ensures { λ _. ⌜
         Ran setup k (now (rasters .entry)) (pairAt (arranged (now (order .entry))) setup (now (rasters .entry)) k)
-        (now (pairs .entry)) (now (pairs .exit)) (now (counts .entry)) (now (counts .exit)) (now (grey .exit))
+        (now (pairs .entry)) (now (pairs .exit)) (now (counts .entry)) (now (counts .exit))
+        (now (compared .entry)) (now (compared .exit)) (now (grey .exit))
         ⌝ }
 {
     let Setup {
@@ -52,6 +54,17 @@ pub fn align_next(
     let from = (k + 1) * (3 * area);
     convert(&rasters[from..], area, grey, second);
     let at = k * (9 * (s as usize + 1));
-    let m = align_frames(grey, first, second, setup, words, counts, at, order, table);
+    let m = align_frames(
+        grey,
+        first,
+        second,
+        setup,
+        words,
+        counts,
+        compared,
+        at,
+        order,
+        table,
+    );
     put_offset(pairs, k, m);
 }

@@ -10,8 +10,8 @@ use rules::Setup;
 ghost use Rattle.rules.specs.Levels.{wardOrder, leastMoveOrder};
 ghost use Rattle.rules.specs.Calls.{toleranceSetup, PairCall};
 
-// The offset that moves the second frame onto the first, and the counts of every level. Among equal
-// counts the least move is preferred.
+// The offset that moves the second frame onto the first, and the counts and compared numbers of every
+// level. Among equal counts the least move is preferred.
 pub fn pair(
     w: usize,
     h: usize,
@@ -21,12 +21,14 @@ pub fn pair(
     first: &[u8],
     second: &[u8],
     counts: &mut [u32],
+    compared: &mut [u32],
     grey: &mut [u8],
     words: &mut [u64],
 ) -> Paired
     ensures { λ r. ⌜
         PairCall leastMoveOrder (toleranceSetup w h s tolerance percentile) (now (first .entry)) (now (second .entry))
-        (now (counts .entry)) (now (counts .exit)) (now (grey .entry)) (now (grey .exit)) (now (words .entry)) (now (words .exit)) r
+        (now (counts .entry)) (now (counts .exit)) (now (compared .entry)) (now (compared .exit))
+        (now (grey .entry)) (now (grey .exit)) (now (words .entry)) (now (words .exit)) r
         ⌝ }
 {
     let setup = Setup {
@@ -43,6 +45,7 @@ pub fn pair(
         first,
         second,
         counts,
+        compared,
         grey,
         words,
         &order,
@@ -59,12 +62,14 @@ pub fn pair_ward(
     first: &[u8],
     second: &[u8],
     counts: &mut [u32],
+    compared: &mut [u32],
     grey: &mut [u8],
     words: &mut [u64],
 ) -> Paired
     ensures { λ r. ⌜
         PairCall wardOrder (toleranceSetup w h s tolerance percentile) (now (first .entry)) (now (second .entry))
-        (now (counts .entry)) (now (counts .exit)) (now (grey .entry)) (now (grey .exit)) (now (words .entry)) (now (words .exit)) r
+        (now (counts .entry)) (now (counts .exit)) (now (compared .entry)) (now (compared .exit))
+        (now (grey .entry)) (now (grey .exit)) (now (words .entry)) (now (words .exit)) r
         ⌝ }
 {
     let setup = Setup {
@@ -81,6 +86,7 @@ pub fn pair_ward(
         first,
         second,
         counts,
+        compared,
         grey,
         words,
         &order,

@@ -3,4 +3,3 @@ pub mod EntryLaws
 pub mod TableLaws
 pub mod RowLaws
 pub mod AdderLaws
-pub mod CountAnswerLaws

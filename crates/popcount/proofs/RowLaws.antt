@@ -1,5 +1,5 @@
 -- Sums over a row's pixels, word by word, and over a frame's rows.
-use mathlib.Core.Path.{_≡_, sym, ap, _∙_}
+use mathlib.Core.Path.{_≡_, refl, sym, ap, _∙_}
 use mathlib.Core.List.{List}
 use Prim.Native.Nat.{ℕ, _+_, _*_, _-_, _/_, _%_, _≤_, _<_}
 use native.Mathlib.Nat.{add-zero}
@@ -56,6 +56,16 @@ seven-adds f k a b c d e g h bits p0 p1 p2 p3 p4 p5 p6 o =
     word-to : (k end v : ℕ) → end ≡ k + 1 → WordOf f k v → Adds f k end (sum 64 (bit v))
     word-to k end v l p = rw l (word-more f k v p)
 
+-- eight words more
+pub eight-adds : (f : ℕ → ℕ) (k a b c d e g h i bits : ℕ)
+    → WordOf f k a → WordOf f (k + 1) b → WordOf f (k + 2) c → WordOf f (k + 3) d → WordOf f (k + 4) e → WordOf f (k + 5) g → WordOf f (k + 6) h → WordOf f (k + 7) i
+    → bits ≡ sum 64 (bit a) + sum 64 (bit b) + sum 64 (bit c) + sum 64 (bit d) + sum 64 (bit e) + sum 64 (bit g) + sum 64 (bit h) + sum 64 (bit i)
+    → Adds f k (k + 8) bits
+eight-adds f k a b c d e g h i bits p0 p1 p2 p3 p4 p5 p6 p7 o =
+    let seven = seven-adds f k a b c d e g h _ p0 p1 p2 p3 p4 p5 p6 refl in
+    let next : k + 7 + 1 ≡ k + 8 = omega arith in
+    rw next at (rw (← o) at (adds-more f k (k + 7) (k + 7 + 1) _ (sum 64 (bit i)) seven (word-more f (k + 7) i p7)))
+
 -- a word that adds nothing
 pub word-none : (f : ℕ → ℕ) (k : ℕ) → WordOf f k 0 → Adds f k (k + 1) 0
 word-none f k e = let a = word-more f k 0 e in let z = sum-zero 64 (bit 0) (λ i l. bit-zero i) in omega arith
@@ -83,10 +93,6 @@ word-le v = bits-le 64 (bit v) (bit-lt v)
 
 pub adds-le : (f : ℕ → ℕ) (first end count : ℕ) → ((i : ℕ) → f i < 2) → Adds f first end count → count ≤ end * 64
 adds-le f first end count b a = let c = bits-le (end * 64) f b in omega arith
-
-pub adds-next-le : (f : ℕ → ℕ) (first k end count more : ℕ) → ((i : ℕ) → f i < 2) → Adds f first k count → Adds f k end more
-    → count + more ≤ end * 64
-adds-next-le f first k end count more b p q = adds-le f first end (count + more) b (adds-more f first k end count more p q)
 
 pub rows-le : (f : ℕ → ℕ) (y : ℕ) → ((z : ℕ) → f z ≤ 4096) → sum y f ≤ y * 4096
 rows-le f y b = sum-le y 4096 f (λ z l. b z)

@@ -4,6 +4,6 @@ use Prim.Native.Nat.{ℕ, _+_, _*_}
 use Rattle.rules.specs.Limits.{wordBits}
 use Rattle.rules.specs.Sums.{sum}
 
--- count is what the words from `first` up to `end` add to the sum of f over a row's pixels
+-- the number is what the words from `first` up to `end` add to the sum of f over a row's pixels
 abbrev pub Adds : (ℕ → ℕ) → ℕ → ℕ → ℕ → Type 0
-Adds f first end count = sum (first * wordBits) f + count ≡ sum (end * wordBits) f
+Adds f first end number = sum (first * wordBits) f + number ≡ sum (end * wordBits) f

@@ -15,7 +15,7 @@ pub struct Sums {
     pub carry: u64,
 }
 
-fn full_adder(a: u64, b: u64, c: u64) -> Sums
+pub fn full_adder(a: u64, b: u64, c: u64) -> Sums
     ensures { λ r. ⌜
         sum wordBits (bit a) + sum wordBits (bit b) + sum wordBits (bit c) ≡ sum wordBits (bit (r .low)) + 2 * sum wordBits (bit (r .carry)) ⌝ }
 {

@@ -12,7 +12,7 @@ use borrow.Author.Tests.{leb-true, leb-false}
 use Rattle.rules.specs.declared.Offset.{Offset}
 use Rattle.rules.specs.Planes.{distance}
 use Rattle.rules.specs.Levels.{still, added, arranged, Arrangement, ruleOf, Aligned, pair}
-use Rattle.rules.specs.Series.{Settings, greyOf, pairOf, sumFrom, opposite, frameOffset, countList, answerOf, answerBy, seriesAnswer}
+use Rattle.rules.specs.Series.{Settings, greyOf, pairOf, sumFrom, opposite, frameOffset, joined, answerOf, answerBy, seriesAnswer}
 use Rattle.rules.specs.declared.Written.{Written}
 use Rattle.rules.specs.Calls.{exclusionRefusal, seriesNumber, SeriesCall}
 use Rattle.rules.specs.BlankSky.{Equal}
@@ -20,7 +20,7 @@ use Rattle.rules.proofs.OffsetLaws.{abs-neg, offset-at}
 use Rattle.rules.proofs.LevelLaws.{wardPlaces, leastMovePlaces, ward-arrangement, least-move-arrangement, counts-length}
 use Rattle.rules.proofs.RefusalLaws.{buffer-part}
 use Rattle.rules.proofs.AlignmentLaws.{series-ok}
-use Rattle.rules.proofs.SeriesLaws.{offset-list-ext, count-at, offsets-size, counts-size}
+use Rattle.rules.proofs.SeriesLaws.{offset-list-ext, joined-at, offsets-size, counts-size}
 use Rattle.rules.proofs.SkyLaws.{timesStep, firstStep, equal-counts, least-stays, ward-corner, written-equal}
 use Rattle.reexposure.specs.BlankSeries.{Unmoved, Reached, levelsOf, BlankSeries}
 
@@ -107,15 +107,15 @@ module _ (preferred : List Offset) (S : Settings) (F : List ℕ) where
 -- ---- its counts
 
 -- the counts of pair j are a part of the series' counts
-part-equal : (n size : ℕ) (pairs : ℕ → Aligned) → ((j : ℕ) → length (pairs j .counts) ≡ 9 * size) → Equal (n * size) (countList n pairs)
-    → (j : ℕ) → j < n → Equal size (pairs j .counts)
-part-equal n size pairs sizes equal j l k i m o =
+part-equal : (n size : ℕ) (counts : ℕ → List ℕ) → ((j : ℕ) → length (counts j) ≡ 9 * size) → Equal (n * size) (joined n counts)
+    → (j : ℕ) → j < n → Equal size (counts j)
+part-equal n size counts sizes equal j l k i m o =
     let fits : j * size + k < n * size = let a = mul-le-mul-right {m = suc j} {n = n} size l in let b = suc-mul j size in omega arith in
-    sym (count-at (9 * size) pairs sizes n j (9 * k + i) l (omega arith))
-    ∙ ap (λ (p : ℕ). getD (countList n pairs) p 0) (place i)
+    sym (joined-at (9 * size) counts sizes n j (9 * k + i) l (omega arith))
+    ∙ ap (λ (p : ℕ). getD (joined n counts) p 0) (place i)
     ∙ equal (j * size + k) i fits o
-    ∙ ap (λ (p : ℕ). getD (countList n pairs) p 0) (sym (place-0))
-    ∙ count-at (9 * size) pairs sizes n j (9 * k) l (omega arith)
+    ∙ ap (λ (p : ℕ). getD (joined n counts) p 0) (sym (place-0))
+    ∙ joined-at (9 * size) counts sizes n j (9 * k) l (omega arith)
   where
     nines : j * (9 * size) ≡ 9 * (j * size)
     nines = sym (mul-assoc j 9 size) ∙ ap (λ (p : ℕ). p * size) (mul-comm j 9) ∙ mul-assoc 9 j size
@@ -132,38 +132,38 @@ module _ (places : List ℕ) (fits : Arrangement places) (S : Settings) (F : Lis
   unfolding seriesAnswer answerBy answerOf pairOf
   pair-first equal j l =
       equal-counts places fits (ruleOf (S .exclusion)) (getD (S .percentiles) j 0) (S .halvings) (S .w) (S .h) (greyOf S F j) (greyOf S F (j + 1))
-      (part-equal (S .frames - 1) (S .halvings + 1) (pairIn (arranged places) S F)
+      (part-equal (S .frames - 1) (S .halvings + 1) (λ k. pairIn (arranged places) S F k .counts)
       (λ k. counts-length (arranged places) (ruleOf (S .exclusion)) (getD (S .percentiles) k 0) (S .halvings) (S .w) (S .h) (greyOf S F k) (greyOf S F (k + 1))) equal j l)
 
 -- ---- an accepted call
 
-module _ (preferred : List Offset) (S : Settings) (F : List ℕ) (offsets offsets′ : List ℤ) (counts counts′ grey grey′ words words′ : List ℕ) (r : Written)
-    (z : seriesNumber S F offsets counts grey words ≡ 0) (call : SeriesCall preferred S F offsets offsets′ counts counts′ grey grey′ words words′ r) where
+module _ (preferred : List Offset) (S : Settings) (F : List ℕ) (offsets offsets′ : List ℤ) (counts counts′ compared compared′ grey grey′ words words′ : List ℕ) (r : Written)
+    (z : seriesNumber S F offsets counts compared grey words ≡ 0) (call : SeriesCall preferred S F offsets offsets′ counts counts′ compared compared′ grey grey′ words words′ r) where
   reference-ok : S .reference < S .frames
   reference-ok =
       series-ok (S .w) (S .h) (S .halvings) (exclusionRefusal (S .exclusion)) (S .frames) (S .reference) (S .percentiles)
-      (length F) (length offsets) (length counts) (length grey) (length words) z .reference
+      (length F) (length offsets) (length counts) (length compared) (length grey) (length words) z .reference
 
   answer-equal : Equal (levelsOf S) counts′ → Equal (levelsOf S) (seriesAnswer preferred S F .counts)
   answer-equal equal =
-      written-equal (levelsOf S) (seriesNumber S F offsets counts grey words) (seriesAnswer preferred S F .counts) counts counts′ z
+      written-equal (levelsOf S) (seriesNumber S F offsets counts compared grey words) (seriesAnswer preferred S F .counts) counts counts′ z
       (let a = counts-size preferred S F in let b = mul-assoc 9 (S .halvings + 1) (S .frames - 1) in let c = mul-comm (S .halvings + 1) (S .frames - 1) in
       let d = ap (λ (p : ℕ). 9 * p) c in omega arith)
       (call .countsAre) equal
 
   written-is : take (2 * S .frames) offsets′ ≡ seriesAnswer preferred S F .offsets
-  written-is = buffer-part (seriesNumber S F offsets counts grey words) (2 * S .frames) (seriesAnswer preferred S F .offsets) offsets offsets′ z (offsets-size preferred S F) (call .offsetsAre)
+  written-is = buffer-part (seriesNumber S F offsets counts compared grey words) (2 * S .frames) (seriesAnswer preferred S F .offsets) offsets offsets′ z (offsets-size preferred S F) (call .offsetsAre)
 
 pub blank-series : BlankSeries
 blank-series = record {
-  leastMove = λ S F offsets offsets′ counts counts′ grey grey′ words words′ r z call equal.
-      let same = answer-equal (arranged leastMovePlaces) S F offsets offsets′ counts counts′ grey grey′ words words′ r z call equal in
-      subst (Unmoved S) (sym (written-is (arranged leastMovePlaces) S F offsets offsets′ counts counts′ grey grey′ words words′ r z call))
-      (series-unmoved (arranged leastMovePlaces) S F (reference-ok (arranged leastMovePlaces) S F offsets offsets′ counts counts′ grey grey′ words words′ r z call)
+  leastMove = λ S F offsets offsets′ counts counts′ compared compared′ grey grey′ words words′ r z call equal.
+      let same = answer-equal (arranged leastMovePlaces) S F offsets offsets′ counts counts′ compared compared′ grey grey′ words words′ r z call equal in
+      subst (Unmoved S) (sym (written-is (arranged leastMovePlaces) S F offsets offsets′ counts counts′ compared compared′ grey grey′ words words′ r z call))
+      (series-unmoved (arranged leastMovePlaces) S F (reference-ok (arranged leastMovePlaces) S F offsets offsets′ counts counts′ compared compared′ grey grey′ words words′ r z call)
       (λ j m. pair-first leastMovePlaces least-move-arrangement S F same j m ∙ least-stays (2 ^ suc (S .halvings) - 1)));
-  ward = λ S F offsets offsets′ counts counts′ grey grey′ words words′ r z call equal.
-      let same = answer-equal (arranged wardPlaces) S F offsets offsets′ counts counts′ grey grey′ words words′ r z call equal in
-      subst (Reached S) (sym (written-is (arranged wardPlaces) S F offsets offsets′ counts counts′ grey grey′ words words′ r z call))
-      (series-reached (arranged wardPlaces) S F (reference-ok (arranged wardPlaces) S F offsets offsets′ counts counts′ grey grey′ words words′ r z call)
+  ward = λ S F offsets offsets′ counts counts′ compared compared′ grey grey′ words words′ r z call equal.
+      let same = answer-equal (arranged wardPlaces) S F offsets offsets′ counts counts′ compared compared′ grey grey′ words words′ r z call equal in
+      subst (Reached S) (sym (written-is (arranged wardPlaces) S F offsets offsets′ counts counts′ compared compared′ grey grey′ words words′ r z call))
+      (series-reached (arranged wardPlaces) S F (reference-ok (arranged wardPlaces) S F offsets offsets′ counts counts′ compared compared′ grey grey′ words words′ r z call)
       (λ j m. pair-first wardPlaces ward-arrangement S F same j m ∙ ward-corner (2 ^ suc (S .halvings) - 1)));
 }

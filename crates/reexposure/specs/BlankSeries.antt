@@ -28,9 +28,9 @@ levelsOf S = (S .frames - 1) * (S .halvings + 1)
 -- What a series call that was accepted has written into its offsets where the counts that it has written are equal, for any rasters and settings (proved in
 -- proofs/BlankSeriesLaws.antt as `blank-series`).
 pub record BlankSeries : Type 0 where
-  pub leastMove : (S : Settings) (F : List ℕ) (offsets offsets′ : List ℤ) (counts counts′ grey grey′ words words′ : List ℕ) (r : Written)
-      → seriesNumber S F offsets counts grey words ≡ 0 → SeriesCall leastMoveOrder S F offsets offsets′ counts counts′ grey grey′ words words′ r
+  pub leastMove : (S : Settings) (F : List ℕ) (offsets offsets′ : List ℤ) (counts counts′ compared compared′ grey grey′ words words′ : List ℕ) (r : Written)
+      → seriesNumber S F offsets counts compared grey words ≡ 0 → SeriesCall leastMoveOrder S F offsets offsets′ counts counts′ compared compared′ grey grey′ words words′ r
       → Equal (levelsOf S) counts′ → Unmoved S (take (2 * S .frames) offsets′)
-  pub ward : (S : Settings) (F : List ℕ) (offsets offsets′ : List ℤ) (counts counts′ grey grey′ words words′ : List ℕ) (r : Written)
-      → seriesNumber S F offsets counts grey words ≡ 0 → SeriesCall wardOrder S F offsets offsets′ counts counts′ grey grey′ words words′ r
+  pub ward : (S : Settings) (F : List ℕ) (offsets offsets′ : List ℤ) (counts counts′ compared compared′ grey grey′ words words′ : List ℕ) (r : Written)
+      → seriesNumber S F offsets counts compared grey words ≡ 0 → SeriesCall wardOrder S F offsets offsets′ counts counts′ compared compared′ grey grey′ words words′ r
       → Equal (levelsOf S) counts′ → Reached S (take (2 * S .frames) offsets′)

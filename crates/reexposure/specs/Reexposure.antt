@@ -34,7 +34,7 @@ pub record ByOrder (rule : ExclusionRule) : Type 0 where
       → ((p : ℕ) → 1 ≤ p → p ≤ 99 → compare (t p) v ≡ compare (t′ p) v′)
       → rule t percentile v ≡ rule t′ percentile v′
 
--- what holds of a series F and of F′, F re-exposed, for an order of the nine and an exclusion rule: the same answer, offsets and counts, and both bounded
+-- what holds of a series F and of F′, F re-exposed, for an order of the nine and an exclusion rule: the same answer, offsets, counts and compared numbers, and both bounded
 pub record Alike (order : List Offset) (rule : ExclusionRule) (S : Settings) (F F′ : List ℕ) : Type 0 where
   pub same : answerBy order rule S F ≡ answerBy order rule S F′
   pub bound : Bounded S (answerBy order rule S F)

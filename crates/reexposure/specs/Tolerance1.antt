@@ -30,19 +30,25 @@ takenAgain = exchanged 3 4 200
 abbrev pub takenCounts : List ℕ
 takenCounts = 8 ∷ 10 ∷ 8 ∷ 6 ∷ 7 ∷ 5 ∷ 0 ∷ 0 ∷ 0 ∷ []
 
+abbrev pub takenCompared : List ℕ
+takenCompared = 8 ∷ 10 ∷ 8 ∷ 11 ∷ 14 ∷ 11 ∷ 8 ∷ 11 ∷ 8 ∷ []
+
+abbrev pub takenAgainCompared : List ℕ
+takenAgainCompared = 0 ∷ 0 ∷ 0 ∷ 3 ∷ 4 ∷ 3 ∷ 3 ∷ 4 ∷ 3 ∷ []
+
 -- Both are accepted, in buffers of just the lengths needed, and one is the other re-exposed. The threshold, 20 and 4, leaves out the dark pixels
--- of the second exposure but not those of the first: 3 is within 1 of 4, 10 is not of 20. Then no two pixels that are left differ, every count is 0,
+-- of the second exposure but not those of the first: 3 is within 1 of 4, 10 is not of 20. Then fewer are compared, none of these differ, every count is 0,
 -- and the first candidate is taken: by the least move the mount stays where it should go right by 1, in Ward's order it goes left by 1.
 pub record DiffersAtTolerance1 : Type 0 where
-  pub accepted : seriesRefusal 4 4 0 (toleranceRefusal 1) 2 0 (50 ∷ []) (length taken) 4 9 32 24 ≡ 0
-  pub accepted′ : seriesRefusal 4 4 0 (toleranceRefusal 1) 2 0 (50 ∷ []) (length takenAgain) 4 9 32 24 ≡ 0
+  pub accepted : seriesRefusal 4 4 0 (toleranceRefusal 1) 2 0 (50 ∷ []) (length taken) 4 9 9 32 24 ≡ 0
+  pub accepted′ : seriesRefusal 4 4 0 (toleranceRefusal 1) 2 0 (50 ∷ []) (length takenAgain) 4 9 9 32 24 ≡ 0
   pub bytes : Bytes taken
   pub bytes′ : Bytes takenAgain
   pub reexposed : Reexposed atTolerance1 taken takenAgain
-  pub leastMove : seriesAnswer leastMoveOrder atTolerance1 taken ≡ record { offsets = pos 0 ∷ pos 0 ∷ pos 1 ∷ pos 0 ∷ []; counts = takenCounts }
-  pub leastMove′ : seriesAnswer leastMoveOrder atTolerance1 takenAgain ≡ record { offsets = pos 0 ∷ pos 0 ∷ pos 0 ∷ pos 0 ∷ []; counts = zeros 9 }
-  pub ward : seriesAnswer wardOrder atTolerance1 taken ≡ record { offsets = pos 0 ∷ pos 0 ∷ pos 1 ∷ negsuc 0 ∷ []; counts = takenCounts }
-  pub ward′ : seriesAnswer wardOrder atTolerance1 takenAgain ≡ record { offsets = pos 0 ∷ pos 0 ∷ negsuc 0 ∷ negsuc 0 ∷ []; counts = zeros 9 }
+  pub leastMove : seriesAnswer leastMoveOrder atTolerance1 taken ≡ record { offsets = pos 0 ∷ pos 0 ∷ pos 1 ∷ pos 0 ∷ []; counts = takenCounts; compared = takenCompared }
+  pub leastMove′ : seriesAnswer leastMoveOrder atTolerance1 takenAgain ≡ record { offsets = pos 0 ∷ pos 0 ∷ pos 0 ∷ pos 0 ∷ []; counts = zeros 9; compared = takenAgainCompared }
+  pub ward : seriesAnswer wardOrder atTolerance1 taken ≡ record { offsets = pos 0 ∷ pos 0 ∷ pos 1 ∷ negsuc 0 ∷ []; counts = takenCounts; compared = takenCompared }
+  pub ward′ : seriesAnswer wardOrder atTolerance1 takenAgain ≡ record { offsets = pos 0 ∷ pos 0 ∷ negsuc 0 ∷ negsuc 0 ∷ []; counts = zeros 9; compared = takenAgainCompared }
 
 -- So tolerance 1 is no rule that sees grey values by their order alone. (Both are proved in proofs/Tolerance1Laws.antt.)
 abbrev pub OneNotByOrder : Type 0

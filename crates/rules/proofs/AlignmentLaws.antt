@@ -15,7 +15,7 @@ use Rattle.rules.specs.Refusals.{_when_, _orElse_, shapeRefusal, badSize
 use Rattle.rules.specs.Refusals.{wrongLength, short, rasterLength, countsLength, levelPixels, greyNeeded, wordsNeeded, shortMemory, pairRefusal, seriesRefusal}
 use Rattle.rules.specs.Accepted.{ShapeOk, PairOk, FramesOk, SeriesOk}
 use Rattle.rules.specs.Answers.{paired}
-use Rattle.rules.proofs.RefusalLaws.{when-no, orElse-no, or-no, size-ok, length-is, length-no, room-no, percentile-ok}
+use Rattle.rules.proofs.RefusalLaws.{when-no, orElse-no, or-no, size-ok, length-is, length-no, percentile-ok}
 
 -- A number of three conditions that is 0, and the rest.
 three-no : (a b c rest : ℕ) → a orElse b orElse c orElse rest ≡ 0 → (a orElse b orElse c ≡ 0) × (rest ≡ 0)
@@ -73,15 +73,17 @@ memory-ok s w h grey words e =
     let p = or-no g v (when-no 11 (g || v) (omega arith) e) in
     (ltb-false grey (greyNeeded s w h) (p .0), ltb-false words (wordsNeeded w h) (p .1))
 
-pub pair-ok : (w h s excluded percentile first second counts grey words : ℕ)
-    → pairRefusal w h s excluded percentile first second counts grey words ≡ 0
-    → PairOk w h s percentile first second counts grey words
+pub pair-ok : (w h s excluded percentile first second counts compared grey words : ℕ)
+    → pairRefusal w h s excluded percentile first second counts compared grey words ≡ 0
+    → PairOk w h s percentile first second counts compared grey words
 unfolding pairRefusal
-pair-ok w h s excluded percentile first second counts grey words e =
+pair-ok w h s excluded percentile first second counts compared grey words e =
     let wrong1 : Bool = wrongLength (rasterLength w h) first in
     let wrong2 : Bool = wrongLength (rasterLength w h) second in
     let n11 : ℕ = 11 when shortMemory s w h grey words in
-    let n10 : ℕ = 10 when short (countsLength s) counts in
+    let short1 : Bool = short (countsLength s) counts in
+    let short2 : Bool = short (countsLength s) compared in
+    let n10 : ℕ = 10 when (short1 || short2) in
     let n9 : ℕ = 9 when (wrong1 || wrong2) in
     let n8 : ℕ = 8 when badPercentile percentile in
     let rest : ℕ = n8 orElse n9 orElse n10 orElse n11 in
@@ -91,6 +93,7 @@ pair-ok w h s excluded percentile first second counts grey words e =
     let d = orElse-no n10 n11 (c .1) in
     let p = percentile-ok percentile (when-no 8 (badPercentile percentile) (omega arith) (b .0)) in
     let q = or-no wrong1 wrong2 (when-no 9 (wrong1 || wrong2) (omega arith) (c .0)) in
+    let r = or-no short1 short2 (when-no 10 (short1 || short2) (omega arith) (d .0)) in
     let m = memory-ok s w h grey words (d .1) in
     record {
       shape = shape-ok w h s (a .0);
@@ -98,7 +101,8 @@ pair-ok w h s excluded percentile first second counts grey words e =
       most = p .1;
       exact1 = length-is (rasterLength w h) first (q .0);
       exact2 = length-is (rasterLength w h) second (q .1);
-      room = room-no (countsLength s) counts (d .0);
+      room1 = ltb-false counts (countsLength s) (r .0);
+      room2 = ltb-false compared (countsLength s) (r .1);
       greys = m .0;
       bitmaps = m .1;
     }
@@ -122,16 +126,17 @@ percentiles-ok [] e k l = absurd (omega arith)
 percentiles-ok (p ∷ ps) e zero l = percentile-ok p (or-no (badPercentile p) (someBadPercentile ps) e .0)
 percentiles-ok (p ∷ ps) e (suc k) l = percentiles-ok ps (or-no (badPercentile p) (someBadPercentile ps) e .1) k (le-of-suc-le-suc l)
 
-pub series-ok : (w h s excluded n r : ℕ) (ps : List ℕ) (rasters offsets counts grey words : ℕ)
-    → seriesRefusal w h s excluded n r ps rasters offsets counts grey words ≡ 0
-    → SeriesOk w h s n r ps rasters offsets counts grey words
+pub series-ok : (w h s excluded n r : ℕ) (ps : List ℕ) (rasters offsets counts compared grey words : ℕ)
+    → seriesRefusal w h s excluded n r ps rasters offsets counts compared grey words ≡ 0
+    → SeriesOk w h s n r ps rasters offsets counts compared grey words
 unfolding seriesRefusal badPercentiles
-series-ok w h s excluded n r ps rasters offsets counts grey words e =
+series-ok w h s excluded n r ps rasters offsets counts compared grey words e =
     let short1 : Bool = short (2 * n) offsets in
     let short2 : Bool = short (countsLength s * (n - 1)) counts in
+    let short3 : Bool = short (countsLength s * (n - 1)) compared in
     let wrong : Bool = wrongLength (n - 1) (length ps) in
     let n11 : ℕ = 11 when shortMemory s w h grey words in
-    let n10 : ℕ = 10 when (short1 || short2) in
+    let n10 : ℕ = 10 when (short1 || (short2 || short3)) in
     let n9 : ℕ = 9 when wrongLength (n * rasterLength w h) rasters in
     let n8 : ℕ = 8 when (wrong || someBadPercentile ps) in
     let rest : ℕ = n8 orElse n9 orElse n10 orElse n11 in
@@ -145,7 +150,8 @@ series-ok w h s excluded n r ps rasters offsets counts grey words e =
     let f = frames-ok excluded n r (b .0) in
     let p = or-no wrong (someBadPercentile ps) (when-no 8 (wrong || someBadPercentile ps) (omega arith) (c .0)) in
     let many : length ps ≡ n - 1 = length-is (n - 1) (length ps) (p .0) in
-    let q = or-no short1 short2 (when-no 10 (short1 || short2) (omega arith) (g .0)) in
+    let q = or-no short1 (short2 || short3) (when-no 10 (short1 || (short2 || short3)) (omega arith) (g .0)) in
+    let t = or-no short2 short3 (q .1) in
     let m = memory-ok s w h grey words (g .1) in
     record {
       shape = shape-ok w h s (a .0);
@@ -155,7 +161,8 @@ series-ok w h s excluded n r ps rasters offsets counts grey words e =
       percentile = λ j l. percentiles-ok ps (p .1) j (omega arith);
       exact = length-no (n * rasterLength w h) rasters (d .0);
       room1 = ltb-false offsets (2 * n) (q .0);
-      room2 = ltb-false counts (countsLength s * (n - 1)) (q .1);
+      room2 = ltb-false counts (countsLength s * (n - 1)) (t .0);
+      room3 = ltb-false compared (countsLength s * (n - 1)) (t .1);
       greys = m .0;
       bitmaps = m .1;
     }

@@ -11,11 +11,11 @@ use Rattle.rules.specs.Thresholds.{atMost, reaches, least, threshold}
 use Rattle.rules.specs.Planes.{thresholdBit, distance, exclusionBit, bitsBy, within}
 use Rattle.rules.specs.Bitmaps.{rowWords}
 use Rattle.rules.specs.Refusals.{badSide, badSize, badHalvings, tooSmall, badTolerance, badPercentile, levelPixels, pairRefusal}
-use Rattle.rules.specs.Differences.{Planes, differ, differAt, difference}
-use Rattle.rules.specs.Levels.{still, wardOrder, leastMoveOrder, byTolerance, planesBy, Aligned, firstLeast, chosen, level, countAt, pair}
+use Rattle.rules.specs.Differences.{Planes, differ, keep, withPartner, difference, compared}
+use Rattle.rules.specs.Levels.{still, wardOrder, leastMoveOrder, byTolerance, planesBy, Aligned, firstLeast, chosen, level, countAt, comparedAt, pair}
 use Rattle.rules.specs.declared.Offset.{Offset}
 use Rattle.rules.specs.Calls.{pairResult}
-use Rattle.rules.specs.Examples.{ExamplesHold, one, oneToFour, firstRows, secondRows, colourless, numbers, printedResult, aligned}
+use Rattle.rules.specs.Examples.{ExamplesHold, PrintedWhole, one, oneToFour, firstRows, secondRows, colourless, numbers, printedResult, aligned}
 use Rattle.rules.specs.TwoLevels.{TwoLevels}
 use Rattle.rules.specs.Ties.{tiedFirst, tiedSecond, tiedBy, Tied}
 use Rattle.rules.specs.FlatFrames.{flat, flatUnmoved, flatInCorner}
@@ -46,22 +46,29 @@ colourless-frame : (w : ℕ) (l : List ℕ) → greyFrame w (colourless l) ≡ f
 unfolding greyFrame frameOf
 colourless-frame w l = fun-ext (λ x. fun-ext (λ y. colourless-at l (y * w + x)))
 
+-- the one level of two planes
+abbrev levelOf : Planes → Planes → Aligned
+levelOf a b = level wardOrder (λ m. difference 4 4 (m .dx) (m .dy) a b) (λ m. compared 4 4 (m .dx) (m .dy) a b) still [] []
+
 case-known : (a b : List ℕ) (s t : ℕ) → threshold 4 4 50 (frameOf 4 a) ≡ s → threshold 4 4 50 (frameOf 4 b) ≡ t
-    → level wardOrder (λ m. difference 4 4 (m .dx) (m .dy) (planesAt s (frameOf 4 a)) (planesAt t (frameOf 4 b))) still [] ≡ aligned
+    → levelOf (planesAt s (frameOf 4 a)) (planesAt t (frameOf 4 b)) ≡ aligned
     → printedResult a b ≡ aligned
-unfolding pairResult pair countAt
+unfolding pairResult pair countAt comparedAt
 case-known a b s t d e r =
     ap₂ (λ (f g : Frame). pair wardOrder (byTolerance 0) 50 0 4 4 f g) (colourless-frame 4 a) (colourless-frame 4 b)
-    ∙ (λ i. level wardOrder (λ m. difference 4 4 (m .dx) (m .dy) (planes-known (frameOf 4 a) s d i) (planes-known (frameOf 4 b) t e i)) still [])
+    ∙ (λ i. levelOf (planes-known (frameOf 4 a) s d i) (planes-known (frameOf 4 b) t e i))
     ∙ r
 
 pub printed : printedResult (firstRows 10 20 90) (secondRows 10 20 90) ≡ aligned
-unfolding sum sumPixels frameOf atMost reaches least threshold thresholdBit distance exclusionBit within differ differAt difference firstLeast chosen level
+unfolding sum sumPixels frameOf atMost reaches least threshold thresholdBit distance exclusionBit within differ keep withPartner difference compared firstLeast chosen level
 printed = case-known (firstRows 10 20 90) (secondRows 10 20 90) 20 20 refl refl refl
 
 reexposed : printedResult (firstRows 3 4 200) (secondRows 10 20 90) ≡ aligned
-unfolding sum sumPixels frameOf atMost reaches least threshold thresholdBit distance exclusionBit within differ differAt difference firstLeast chosen level
+unfolding sum sumPixels frameOf atMost reaches least threshold thresholdBit distance exclusionBit within differ keep withPartner difference compared firstLeast chosen level
 reexposed = case-known (firstRows 3 4 200) (secondRows 10 20 90) 4 20 refl refl refl
+
+pub printed-whole : PrintedWhole
+printed-whole = (printed, reexposed)
 
 pub examples-hold : ExamplesHold
 unfolding sum sumPixels frameOf grey insert sorted secondSmallest atMost reaches least threshold
@@ -75,7 +82,7 @@ examples-hold =
 
 pub two-levels : TwoLevels
 unfolding sum sumPixels frameOf insert sorted secondSmallest halved atMost reaches least threshold thresholdBit
-    distance exclusionBit within differ differAt difference planesBy firstLeast chosen level countAt pair
+    distance exclusionBit within differ keep withPartner difference compared planesBy firstLeast chosen level countAt comparedAt pair
 two-levels = refl
 
 -- a tie by both orders, on the grey rows
@@ -85,11 +92,11 @@ tied-rows order = ap₂ (λ (f g : Frame). pair order (byTolerance 0) 50 1 8 8 f
 
 pub tied : Tied
 unfolding rowWords badSide badSize badHalvings tooSmall badTolerance badPercentile levelPixels pairRefusal sum sumPixels frameOf insert sorted secondSmallest halved atMost reaches least threshold thresholdBit
-    distance exclusionBit within differ differAt difference planesBy firstLeast chosen level countAt pair
+    distance exclusionBit within differ keep withPartner difference compared planesBy firstLeast chosen level countAt comparedAt pair
 tied = record { accepted = refl; leastMove = tied-rows leastMoveOrder; ward = tied-rows wardOrder }
 
 -- the flat plate at grey 0 by both orders; FlatLaws.antt and FlatRasterLaws.antt have it for every flat frame
 flat-computed : (pair leastMoveOrder (byTolerance 0) 50 2 16 16 (flat 0) (flat 0) ≡ flatUnmoved) × (pair wardOrder (byTolerance 0) 50 2 16 16 (flat 0) (flat 0) ≡ flatInCorner)
 unfolding sum sumPixels insert sorted secondSmallest halved atMost reaches least threshold thresholdBit
-    distance exclusionBit within differ differAt difference planesBy firstLeast chosen level countAt pair
+    distance exclusionBit within differ keep withPartner difference compared planesBy firstLeast chosen level countAt comparedAt pair
 flat-computed = (refl, refl)

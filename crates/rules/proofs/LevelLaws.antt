@@ -1,7 +1,7 @@
 -- Laws of a level's answer: the candidate chosen, by its place among the nine.
 use mathlib.Core.Path.{_≡_, refl, sym, ap, _∙_}
 use mathlib.Core.Bool.{Bool, true, false, cond}
-use mathlib.Core.List.{List, [], _∷_, map}
+use mathlib.Core.List.{List, [], _∷_, _++_, map}
 use Prim.Native.Nat.{ℕ, zero, suc, _+_, _*_, _/_, _%_, _≤_, _<_}
 use native.Mathlib.Omega.{arith}
 use lib.Dec.{eqb, ltb}
@@ -11,7 +11,7 @@ use Rattle.rules.specs.declared.Offset.{Offset}
 use Rattle.rules.specs.Frames.{Frame}
 use Rattle.rules.specs.Greys.{halved}
 use Rattle.rules.proofs.CaseLaws.{all, all-at}
-use Rattle.rules.specs.Levels.{still, added, wardOrder, arranged, times, Arrangement, ExclusionRule, firstLeast, chosen, candidateAt, stepOf, level, countAt, pair}
+use Rattle.rules.specs.Levels.{still, added, wardOrder, arranged, times, Arrangement, ExclusionRule, firstLeast, chosen, candidateAt, stepOf, level, countAt, comparedAt, pair}
 
 -- place r of a list has the least count, and every place before it a greater one
 pub record FirstLeast (count : Offset → ℕ) (ms : List Offset) (r : ℕ) : Type 0 where
@@ -115,11 +115,24 @@ pub arranged-length : (centre : Offset) (places : List ℕ) → length (map (add
 arranged-length centre [] = refl
 arranged-length centre (p ∷ ps) = ap suc (arranged-length centre ps)
 
--- an answer of s halvings has 9·(s + 1) counts
-pub counts-length : (order : List Offset) (rule : ExclusionRule) (percentile s w h : ℕ) (a b : Frame) → length (pair order rule percentile s w h a b .counts) ≡ 9 * (s + 1)
-unfolding pair level
-counts-length order rule percentile zero w h a b = refl
-counts-length order rule percentile (suc s) w h a b =
-    let coarse = pair order rule percentile s (w / 2) (h / 2) (halved a) (halved b) in
-    length-append (coarse .counts) (map (countAt rule percentile w h a b) (map (added (added (coarse .offset) (coarse .offset))) wardOrder))
-    ∙ (let e = counts-length order rule percentile s (w / 2) (h / 2) (halved a) (halved b) in omega arith)
+-- nine numbers after others
+nine-more : (l : List ℕ) (number : Offset → ℕ) (centre : Offset) (s : ℕ) → length l ≡ 9 * (s + 1) → length (l ++ map number (map (added centre) wardOrder)) ≡ 9 * (suc s + 1)
+nine-more l number centre s e = length-append l (map number (map (added centre) wardOrder)) ∙ omega arith
+
+module _ (order : List Offset) (rule : ExclusionRule) (percentile : ℕ) where
+  -- an answer of s halvings has 9·(s + 1) counts and as many compared numbers
+  lengths : (s w h : ℕ) (a b : Frame) → let answer = pair order rule percentile s w h a b in
+      (length (answer .counts) ≡ 9 * (s + 1)) × (length (answer .compared) ≡ 9 * (s + 1))
+  unfolding pair level
+  lengths zero w h a b = (refl, refl)
+  lengths (suc s) w h a b =
+      let coarse = pair order rule percentile s (w / 2) (h / 2) (halved a) (halved b) in
+      let centre : Offset = added (coarse .offset) (coarse .offset) in
+      let below = lengths s (w / 2) (h / 2) (halved a) (halved b) in
+      (nine-more (coarse .counts) (countAt rule percentile w h a b) centre s (below .0), nine-more (coarse .compared) (comparedAt rule percentile w h a b) centre s (below .1))
+
+  pub counts-length : (s w h : ℕ) (a b : Frame) → length (pair order rule percentile s w h a b .counts) ≡ 9 * (s + 1)
+  counts-length s w h a b = lengths s w h a b .0
+
+  pub compared-length : (s w h : ℕ) (a b : Frame) → length (pair order rule percentile s w h a b .compared) ≡ 9 * (s + 1)
+  compared-length s w h a b = lengths s w h a b .1

@@ -17,3 +17,4 @@ pub mod SignedLaws
 pub mod PairLaws
 pub mod SeriesLaws
 pub mod FlatRasterLaws
+pub mod ShareLaws

@@ -16,7 +16,7 @@ use Rattle.rules.specs.Frames.{Frame}
 use Rattle.rules.specs.Greys.{halved}
 use Rattle.rules.specs.Planes.{distance}
 use Rattle.rules.specs.declared.Offset.{Offset}
-use Rattle.rules.specs.Levels.{still, added, Near, Every, ExclusionRule, wardOrder, arranged, firstLeast, chosen, level, countAt, pair}
+use Rattle.rules.specs.Levels.{still, added, Near, Every, ExclusionRule, wardOrder, arranged, firstLeast, chosen, level, countAt, comparedAt, pair}
 use Rattle.rules.specs.Series.{sumFrom, opposite, frameOffset, offsetList}
 use Rattle.rules.proofs.SumLaws.{order}
 
@@ -71,24 +71,24 @@ near-candidates n centre (m ∷ ms) c all = (near-add n 1 centre m c (all .0), n
 pub near-still : (n : ℕ) → Near n still
 near-still n = record { dx = omega arith; dy = omega arith }
 
-near-level : (order : List Offset) → Every (Near 1) order → (count : Offset → ℕ) (n : ℕ) (centre : Offset) (coarser : List ℕ)
-    → Near n centre → Near (n + 1) (level order count centre coarser .offset)
+near-level : (order : List Offset) → Every (Near 1) order → (count outOf : Offset → ℕ) (n : ℕ) (centre : Offset) (counts compared : List ℕ)
+    → Near n centre → Near (n + 1) (level order count outOf centre counts compared .offset)
 unfolding level
-near-level order steps count n centre coarser c =
+near-level order steps count outOf n centre counts compared c =
     chosen-every (Near (n + 1)) count (map (added centre) order) (near-still (n + 1)) (near-candidates n centre order c steps)
 
 -- "its function reaches 2^(s+1)−1"
 pub near-pair : (order : List Offset) → Every (Near 1) order → (exclusion : ExclusionRule) (percentile s w h : ℕ) (a b : Frame)
     → Near (2 ^ suc s - 1) (pair order exclusion percentile s w h a b .offset)
 unfolding pair
-near-pair order steps exclusion percentile zero w h a b = near-level order steps (countAt exclusion percentile w h a b) 0 still [] (near-still 0)
+near-pair order steps exclusion percentile zero w h a b = near-level order steps (countAt exclusion percentile w h a b) (comparedAt exclusion percentile w h a b) 0 still [] [] (near-still 0)
 near-pair order steps exclusion percentile (suc s) w h a b =
     let coarse = pair order exclusion percentile s (w / 2) (h / 2) (halved a) (halved b) in
     let n : ℕ = 2 ^ suc s - 1 in
     let c : Near n (coarse .offset) = near-pair order steps exclusion percentile s (w / 2) (h / 2) (halved a) (halved b) in
     let e : n + n + 1 ≡ 2 ^ suc (suc s) - 1 = omega (arith, pow-pos s) in
-    rw e at (near-level order steps (countAt exclusion percentile w h a b) (n + n) (added (coarse .offset) (coarse .offset)) (coarse .counts)
-    (near-add n n (coarse .offset) (coarse .offset) c c))
+    rw e at (near-level order steps (countAt exclusion percentile w h a b) (comparedAt exclusion percentile w h a b) (n + n) (added (coarse .offset) (coarse .offset))
+    (coarse .counts) (coarse .compared) (near-add n n (coarse .offset) (coarse .offset) c c))
 
 near-ward : Every (Near 1) wardOrder
 near-ward = omega arith

@@ -130,24 +130,24 @@ written-equal n number out before after z room e equal k j l m =
     let same = rw e at (equal k j l m) in
     sym (buffer-at number out before 0 (9 * k + j) z (omega arith)) ∙ same ∙ buffer-at number out before 0 (9 * k) z (omega arith)
 
-pair-blank : (places : List ℕ) (fits : Arrangement places) (S : Setup) (first second counts counts′ grey grey′ words words′ : List ℕ) (r : Paired)
-    → pairNumber S first second counts grey words ≡ 0 → PairCall (arranged places) S first second counts counts′ grey grey′ words words′ r → Equal (S .s + 1) counts′
+pair-blank : (places : List ℕ) (fits : Arrangement places) (S : Setup) (first second counts counts′ compared compared′ grey grey′ words words′ : List ℕ) (r : Paired)
+    → pairNumber S first second counts compared grey words ≡ 0 → PairCall (arranged places) S first second counts counts′ compared compared′ grey grey′ words words′ r → Equal (S .s + 1) counts′
     → r ≡ Paired.Moved (timesStep (2 ^ suc (S .s) - 1) (firstStep places fits))
 unfolding pairResult
-pair-blank places fits S first second counts counts′ grey grey′ words words′ r z call equal =
+pair-blank places fits S first second counts counts′ compared compared′ grey grey′ words words′ r z call equal =
     let a = greyFrame (S .w) first in
     let b = greyFrame (S .w) second in
     let result = pairResult (arranged places) S first second in
     let size : length (result .counts) ≡ 9 * (S .s + 1) = counts-length (arranged places) (ruleOf (S .exclusion)) (S .percentile) (S .s) (S .w) (S .h) a b in
     call .answered ∙ ap (λ (n : ℕ). paired n (result .offset)) z
     ∙ ap Paired.Moved (equal-counts places fits (ruleOf (S .exclusion)) (S .percentile) (S .s) (S .w) (S .h) a b
-    (written-equal (S .s + 1) (pairNumber S first second counts grey words) (result .counts) counts counts′ z (omega arith) (call .countsAre) equal))
+    (written-equal (S .s + 1) (pairNumber S first second counts compared grey words) (result .counts) counts counts′ z (omega arith) (call .countsAre) equal))
 
 pub blank-sky : BlankSky
 blank-sky = record {
-  leastMove = λ S first second counts counts′ grey grey′ words words′ r z call equal.
-      pair-blank leastMovePlaces least-move-arrangement S first second counts counts′ grey grey′ words words′ r z call equal
+  leastMove = λ S first second counts counts′ compared compared′ grey grey′ words words′ r z call equal.
+      pair-blank leastMovePlaces least-move-arrangement S first second counts counts′ compared compared′ grey grey′ words words′ r z call equal
       ∙ ap Paired.Moved (least-stays (2 ^ suc (S .s) - 1));
-  ward = λ S first second counts counts′ grey grey′ words words′ r z call equal.
-      pair-blank wardPlaces ward-arrangement S first second counts counts′ grey grey′ words words′ r z call equal ∙ ap Paired.Moved (ward-corner (2 ^ suc (S .s) - 1));
+  ward = λ S first second counts counts′ compared compared′ grey grey′ words words′ r z call equal.
+      pair-blank wardPlaces ward-arrangement S first second counts counts′ compared compared′ grey grey′ words words′ r z call equal ∙ ap Paired.Moved (ward-corner (2 ^ suc (S .s) - 1));
 }

@@ -1,13 +1,13 @@
 -- Laws of sums over numbers and over pixels.
 use mathlib.Core.Path.{_≡_, refl, sym, ap, ap₂, _∙_}
-use mathlib.Core.Bool.{Bool, true, false}
+use mathlib.Core.Bool.{Bool, true, false, _&&_}
 use mathlib.Core.Logic.{_⊎_, inl, inr}
 use Prim.Native.Nat.{ℕ, zero, suc, _+_, _*_, _-_, _≤_, _<_}
 use native.Mathlib.Decide.{decLt}
 use native.Mathlib.Nat.{le-refl}
 use native.Mathlib.Numerals.{add-one}
 use native.Mathlib.Omega.{arith}
-use Rattle.rules.specs.Sums.{gate, sum, rowSum, sumPixels}
+use Rattle.rules.specs.Sums.{gate, oneIf, sum, rowSum, sumPixels}
 
 -- the case split on two numbers
 pub order : (a b : ℕ) → (a < b) ⊎ (b ≤ a)
@@ -24,6 +24,11 @@ gate-small false n l = omega arith
 pub gate-zero : (t : Bool) → gate t 0 ≡ 0
 gate-zero true = refl
 gate-zero false = refl
+
+-- a test that fails leaves nothing
+pub and-false : (t : Bool) → oneIf (t && false) ≡ 0
+and-false true = refl
+and-false false = refl
 
 pub sum-none : (f : ℕ → ℕ) → sum 0 f ≡ 0
 unfolding sum
@@ -72,12 +77,6 @@ sum-part m n f l =
 pub pixels-ext : (w h : ℕ) (f g : ℕ → ℕ → ℕ) → ((x y : ℕ) → x < w → y < h → f x y ≡ g x y) → sumPixels w h f ≡ sumPixels w h g
 unfolding sumPixels
 pixels-ext w h f g e = sum-ext h (rowSum w f) (rowSum w g) (λ y l. sum-ext w (λ x. f x y) (λ x. g x y) (λ x k. e x y k l))
-
-pub pixels-le : (w h : ℕ) (f : ℕ → ℕ → ℕ) → ((x y : ℕ) → x < w → y < h → f x y ≤ 1) → sumPixels w h f ≤ h * w
-unfolding sumPixels
-pixels-le w h f e =
-    sum-le h w (rowSum w f)
-    (λ y l. let a = sum-le w 1 (λ x. f x y) (λ x k. e x y k l) in omega arith)
 
 sum-mono : (n : ℕ) (f g : ℕ → ℕ) → ((i : ℕ) → i < n → f i ≤ g i) → sum n f ≤ sum n g
 unfolding sum

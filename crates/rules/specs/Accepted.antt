@@ -65,13 +65,14 @@ pub record ShapeOk (w h s : ℕ) : Type 0 where
   pub wide : 2 ^ (s + 2) ≤ w
   pub high : 2 ^ (s + 2) ≤ h
 
-pub record PairOk (w h s percentile first second counts grey words : ℕ) : Type 0 where
+pub record PairOk (w h s percentile first second counts compared grey words : ℕ) : Type 0 where
   pub shape : ShapeOk w h s
   pub least : 1 ≤ percentile
   pub most : percentile ≤ 99
   pub exact1 : first ≡ 3 * (w * h)
   pub exact2 : second ≡ 3 * (w * h)
-  pub room : 9 * (s + 1) ≤ counts
+  pub room1 : 9 * (s + 1) ≤ counts
+  pub room2 : 9 * (s + 1) ≤ compared
   pub greys : greyNeeded s w h ≤ grey
   pub bitmaps : 6 * (rowWords w * h) ≤ words
 
@@ -80,7 +81,7 @@ pub record FramesOk (n r : ℕ) : Type 0 where
   pub most : n ≤ maxFrames
   pub reference : r < n
 
-pub record SeriesOk (w h s n r : ℕ) (ps : List ℕ) (rasters offsets counts grey words : ℕ) : Type 0 where
+pub record SeriesOk (w h s n r : ℕ) (ps : List ℕ) (rasters offsets counts compared grey words : ℕ) : Type 0 where
   pub shape : ShapeOk w h s
   pub frames : (0 < n) × (n ≤ maxFrames)
   pub reference : r < n
@@ -89,5 +90,6 @@ pub record SeriesOk (w h s n r : ℕ) (ps : List ℕ) (rasters offsets counts gr
   pub exact : rasters ≡ n * (3 * (w * h))
   pub room1 : 2 * n ≤ offsets
   pub room2 : 9 * (s + 1) * (n - 1) ≤ counts
+  pub room3 : 9 * (s + 1) * (n - 1) ≤ compared
   pub greys : greyNeeded s w h ≤ grey
   pub bitmaps : 6 * (rowWords w * h) ≤ words

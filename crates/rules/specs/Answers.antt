@@ -3,6 +3,8 @@ use mathlib.Core.List.{List}
 use Prim.Native.Nat.{ℕ, zero, suc}
 use Rattle.rules.specs.declared.Written.{Written}
 use Rattle.rules.specs.declared.Counted.{Counted}
+use Rattle.rules.specs.declared.Tally.{Tally}
+use Rattle.rules.specs.declared.Tallied.{Tallied}
 use Rattle.rules.specs.declared.Thresholded.{Thresholded}
 use Rattle.rules.specs.declared.Offset.{Offset}
 use Rattle.rules.specs.declared.Paired.{Paired}
@@ -16,6 +18,10 @@ written (suc n) = Written.Refused (suc n)
 abbrev pub counted : ℕ → ℕ → Counted
 counted zero count = Counted.Count count
 counted (suc n) count = Counted.Refused (suc n)
+
+abbrev pub tallied : ℕ → Tally → Tallied
+tallied zero tally = Tallied.Tally tally
+tallied (suc n) tally = Tallied.Refused (suc n)
 
 abbrev pub thresholded : ℕ → ℕ → Thresholded
 thresholded zero t = Thresholded.At t

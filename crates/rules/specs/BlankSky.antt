@@ -22,7 +22,7 @@ corner s = record { dx = negℤ (pos (2 ^ suc s - 1)); dy = negℤ (pos (2 ^ suc
 
 -- What a pair call that was accepted answers where the counts that it has written are equal, for any two rasters and any setup (proved in proofs/SkyLaws.antt as `blank-sky`).
 pub record BlankSky : Type 0 where
-  pub leastMove : (S : Setup) (first second counts counts′ grey grey′ words words′ : List ℕ) (r : Paired) → pairNumber S first second counts grey words ≡ 0
-      → PairCall leastMoveOrder S first second counts counts′ grey grey′ words words′ r → Equal (S .s + 1) counts′ → r ≡ Paired.Moved still
-  pub ward : (S : Setup) (first second counts counts′ grey grey′ words words′ : List ℕ) (r : Paired) → pairNumber S first second counts grey words ≡ 0
-      → PairCall wardOrder S first second counts counts′ grey grey′ words words′ r → Equal (S .s + 1) counts′ → r ≡ Paired.Moved (corner (S .s))
+  pub leastMove : (S : Setup) (first second counts counts′ compared compared′ grey grey′ words words′ : List ℕ) (r : Paired) → pairNumber S first second counts compared grey words ≡ 0
+      → PairCall leastMoveOrder S first second counts counts′ compared compared′ grey grey′ words words′ r → Equal (S .s + 1) counts′ → r ≡ Paired.Moved still
+  pub ward : (S : Setup) (first second counts counts′ compared compared′ grey grey′ words words′ : List ℕ) (r : Paired) → pairNumber S first second counts compared grey words ≡ 0
+      → PairCall wardOrder S first second counts counts′ compared compared′ grey grey′ words words′ r → Equal (S .s + 1) counts′ → r ≡ Paired.Moved (corner (S .s))

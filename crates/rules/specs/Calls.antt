@@ -6,6 +6,8 @@ use lib.ListN.{length}
 use lib.IntN.{ℤ}
 use Rattle.rules.specs.declared.Written.{Written}
 use Rattle.rules.specs.declared.Counted.{Counted}
+use Rattle.rules.specs.declared.Tally.{Tally}
+use Rattle.rules.specs.declared.Tallied.{Tallied}
 use Rattle.rules.specs.declared.Thresholded.{Thresholded}
 use Rattle.rules.specs.declared.Offset.{Offset}
 use Rattle.rules.specs.declared.Exclusion.{Exclusion}
@@ -16,11 +18,11 @@ use Rattle.rules.specs.Greys.{greyFrame, halved}
 use Rattle.rules.specs.Thresholds.{threshold}
 use Rattle.rules.specs.Planes.{thresholdBit, exclusionBit, bitsBy, shifted, total}
 use Rattle.rules.specs.Bitmaps.{bitAt, packed}
-use Rattle.rules.specs.Differences.{Planes, difference}
+use Rattle.rules.specs.Differences.{Planes, difference, compared}
 use Rattle.rules.specs.Levels.{Aligned, alignedBy}
 use Rattle.rules.specs.Refusals.{greyRefusal, halveRefusal, thresholdRefusal, bitmapsRefusal, shiftRefusal, totalRefusal, differenceRefusal, toleranceRefusal, pairRefusal, seriesRefusal}
 use Rattle.rules.specs.Series.{Settings, Answer, seriesAnswer}
-use Rattle.rules.specs.Answers.{written, counted, thresholded, paired, bufferAfter}
+use Rattle.rules.specs.Answers.{written, counted, tallied, thresholded, paired, bufferAfter}
 
 -- what a call that fills a lent buffer leaves, with this refusal number and this output: its answer, and the buffer before and after it
 pub record Fills (number : ℕ) (out before after : List ℕ) (r : Written) : Type 0 where
@@ -59,14 +61,17 @@ ShiftCall w h dx dy bitmap out out′ r =
 abbrev pub totalAnswer : ℕ → ℕ → List ℕ → Counted
 totalAnswer w h bitmap = counted (totalRefusal w h (length bitmap)) (total w h (bitAt w h bitmap))
 
--- Difference count of two frames' four lent bitmaps.
+-- Difference count and compared number of two frames' four lent bitmaps.
 abbrev pub planesOf : ℕ → ℕ → List ℕ → List ℕ → Planes
 planesOf w h threshold exclusion = record { threshold = bitAt w h threshold; exclusion = bitAt w h exclusion }
 
-abbrev pub differenceAnswer : ℕ → ℕ → ℤ → ℤ → List ℕ → List ℕ → List ℕ → List ℕ → Counted
+abbrev pub tallyOf : ℕ → ℕ → ℤ → ℤ → Planes → Planes → Tally
+tallyOf w h dx dy a b = record { count = difference w h dx dy a b; compared = compared w h dx dy a b }
+
+abbrev pub differenceAnswer : ℕ → ℕ → ℤ → ℤ → List ℕ → List ℕ → List ℕ → List ℕ → Tallied
 differenceAnswer w h dx dy threshold1 exclusion1 threshold2 exclusion2 =
-    counted (differenceRefusal w h (length threshold1) (length exclusion1) (length threshold2) (length exclusion2))
-    (difference w h dx dy (planesOf w h threshold1 exclusion1) (planesOf w h threshold2 exclusion2))
+    tallied (differenceRefusal w h (length threshold1) (length exclusion1) (length threshold2) (length exclusion2))
+    (tallyOf w h dx dy (planesOf w h threshold1 exclusion1) (planesOf w h threshold2 exclusion2))
 
 -- Pair alignment of two rasters. Document 01's setup leaves pixels out by a tolerance.
 abbrev pub toleranceSetup : ℕ → ℕ → ℕ → ℕ → ℕ → Setup
@@ -76,42 +81,46 @@ toleranceSetup w h s tolerance percentile = record { w = w; h = h; s = s; percen
 abbrev pub exclusionRefusal : Exclusion → ℕ
 exclusionRefusal (Exclusion.Tolerance tolerance) = toleranceRefusal tolerance
 
-abbrev pub pairNumber : Setup → List ℕ → List ℕ → List ℕ → List ℕ → List ℕ → ℕ
-pairNumber S first second counts grey words =
-    pairRefusal (S .w) (S .h) (S .s) (exclusionRefusal (S .exclusion)) (S .percentile) (length first) (length second) (length counts) (length grey) (length words)
+abbrev pub pairNumber : Setup → List ℕ → List ℕ → List ℕ → List ℕ → List ℕ → List ℕ → ℕ
+pairNumber S first second counts compared grey words =
+    pairRefusal (S .w) (S .h) (S .s) (exclusionRefusal (S .exclusion)) (S .percentile)
+    (length first) (length second) (length counts) (length compared) (length grey) (length words)
 
 -- "the pixel-by-pixel answer": from rasters, sizes and settings alone
 unfoldable pub pairResult : List Offset → Setup → List ℕ → List ℕ → Aligned
 pairResult order S first second = alignedBy order S (greyFrame (S .w) first) (greyFrame (S .w) second)
 
--- what a pair call with this refusal number and this result leaves: its answer, the counts, and on refusal its work memory as it was
-pub record PairLeft (number : ℕ) (result : Aligned) (counts counts′ grey grey′ words words′ : List ℕ) (r : Paired) : Type 0 where
+-- what a pair call with this refusal number and this result leaves: its answer, the counts, the compared numbers, and on refusal its work memory as it was
+pub record PairLeft (number : ℕ) (result : Aligned) (counts counts′ compared compared′ grey grey′ words words′ : List ℕ) (r : Paired) : Type 0 where
   pub answered : r ≡ paired number (result .offset)
   pub countsAre : counts′ ≡ bufferAfter number (result .counts) counts
+  pub comparedAre : compared′ ≡ bufferAfter number (result .compared) compared
   pub memoryKept : (number ≡ 0 → ⊥) → (grey′ ≡ grey) × (words′ ≡ words)
 
 -- a pair call, in an order of the nine: each lent buffer stands twice, as it was before the call and after it
-abbrev pub PairCall : List Offset → Setup → List ℕ → List ℕ → List ℕ → List ℕ → List ℕ → List ℕ → List ℕ → List ℕ → Paired → Type 0
-PairCall order S first second counts counts′ grey grey′ words words′ r =
-    PairLeft (pairNumber S first second counts grey words) (pairResult order S first second) counts counts′ grey grey′ words words′ r
+abbrev pub PairCall : List Offset → Setup → List ℕ → List ℕ → List ℕ → List ℕ → List ℕ → List ℕ → List ℕ → List ℕ → List ℕ → List ℕ → Paired → Type 0
+PairCall order S first second counts counts′ compared compared′ grey grey′ words words′ r =
+    PairLeft (pairNumber S first second counts compared grey words) (pairResult order S first second) counts counts′ compared compared′ grey grey′ words words′ r
 
 -- Series alignment, by a tolerance too.
 abbrev pub toleranceSettings : ℕ → ℕ → ℕ → ℕ → ℕ → ℕ → List ℕ → Settings
 toleranceSettings w h s tolerance n r percentiles =
     record { frames = n; w = w; h = h; halvings = s; exclusion = Exclusion.Tolerance tolerance; reference = r; percentiles = percentiles }
 
-abbrev pub seriesNumber : Settings → List ℕ → List ℤ → List ℕ → List ℕ → List ℕ → ℕ
-seriesNumber S rasters offsets counts grey words =
+abbrev pub seriesNumber : Settings → List ℕ → List ℤ → List ℕ → List ℕ → List ℕ → List ℕ → ℕ
+seriesNumber S rasters offsets counts compared grey words =
     seriesRefusal (S .w) (S .h) (S .halvings) (exclusionRefusal (S .exclusion)) (S .frames) (S .reference) (S .percentiles)
-    (length rasters) (length offsets) (length counts) (length grey) (length words)
+    (length rasters) (length offsets) (length counts) (length compared) (length grey) (length words)
 
 -- what a series call with this refusal number and this result leaves
-pub record SeriesLeft (number : ℕ) (result : Answer) (offsets offsets′ : List ℤ) (counts counts′ grey grey′ words words′ : List ℕ) (r : Written) : Type 0 where
+pub record SeriesLeft (number : ℕ) (result : Answer) (offsets offsets′ : List ℤ) (counts counts′ compared compared′ grey grey′ words words′ : List ℕ) (r : Written) : Type 0 where
   pub answered : r ≡ written number
   pub offsetsAre : offsets′ ≡ bufferAfter number (result .offsets) offsets
   pub countsAre : counts′ ≡ bufferAfter number (result .counts) counts
+  pub comparedAre : compared′ ≡ bufferAfter number (result .compared) compared
   pub memoryKept : (number ≡ 0 → ⊥) → (grey′ ≡ grey) × (words′ ≡ words)
 
-abbrev pub SeriesCall : List Offset → Settings → List ℕ → List ℤ → List ℤ → List ℕ → List ℕ → List ℕ → List ℕ → List ℕ → List ℕ → Written → Type 0
-SeriesCall order S rasters offsets offsets′ counts counts′ grey grey′ words words′ r =
-    SeriesLeft (seriesNumber S rasters offsets counts grey words) (seriesAnswer order S rasters) offsets offsets′ counts counts′ grey grey′ words words′ r
+abbrev pub SeriesCall : List Offset → Settings → List ℕ → List ℤ → List ℤ → List ℕ → List ℕ → List ℕ → List ℕ → List ℕ → List ℕ → List ℕ → List ℕ → Written → Type 0
+SeriesCall order S rasters offsets offsets′ counts counts′ compared compared′ grey grey′ words words′ r =
+    SeriesLeft (seriesNumber S rasters offsets counts compared grey words) (seriesAnswer order S rasters)
+    offsets offsets′ counts counts′ compared compared′ grey grey′ words words′ r

@@ -40,9 +40,13 @@ numbers r = r .offset .dx ∷ r .offset .dy ∷ map pos (r .counts)
 abbrev pub printedResult : List ℕ → List ℕ → Aligned
 printedResult a b = pairResult wardOrder (toleranceSetup 4 4 0 0 50) (colourless a) (colourless b)
 
--- "offset -1 -1", "0: 0 0 0 5 7 6 8 10 8"
+-- "offset -1 -1", "0: 0 0 0 5 7 6 8 10 8"; the compared numbers beside them are ours
 abbrev pub aligned : Aligned
-aligned = record { offset = record { dx = negsuc 0; dy = negsuc 0 }; counts = 0 ∷ 0 ∷ 0 ∷ 5 ∷ 7 ∷ 6 ∷ 8 ∷ 10 ∷ 8 ∷ [] }
+aligned = record {
+  offset = record { dx = negsuc 0; dy = negsuc 0 };
+  counts = 0 ∷ 0 ∷ 0 ∷ 5 ∷ 7 ∷ 6 ∷ 8 ∷ 10 ∷ 8 ∷ [];
+  compared = 8 ∷ 11 ∷ 8 ∷ 11 ∷ 14 ∷ 11 ∷ 8 ∷ 10 ∷ 8 ∷ [];
+}
 
 abbrev pub examples : List Example
 examples =
@@ -65,3 +69,7 @@ examples =
 -- every example of the table comes out as printed (proved in proofs/ExampleLaws.antt)
 abbrev pub ExamplesHold : Type 0
 ExamplesHold = map (λ e. e .value) examples ≡ map (λ e. e .printed) examples
+
+-- the two printed answers whole, with their compared numbers (proved there as `printed-whole`)
+abbrev pub PrintedWhole : Type 0
+PrintedWhole = (printedResult (firstRows 10 20 90) (secondRows 10 20 90) ≡ aligned) × (printedResult (firstRows 3 4 200) (secondRows 10 20 90) ≡ aligned)

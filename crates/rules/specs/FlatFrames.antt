@@ -1,6 +1,6 @@
 -- Flat frames: "Two equal flat frames, s=2, 16 by 16: all 27 counts 0, offset (−7,−7)" in Ward's order; "the flat plate gives (0,0) by the new pair" (document 02,
 -- Paper 1). So it is for every grey value, size, tolerance and percentile from 1 to 99: each pixel has the threshold's grey value and is left out, so every count
--- is 0, and each level takes the first candidate of the order.
+-- and every compared number is 0, and each level takes the first candidate of the order.
 -- Hence document 000's function "reaches 2^(s+1)−1", and no smaller bound holds for a pair in Ward's order.
 use mathlib.Core.Path.{_≡_}
 use mathlib.Core.List.{List, [], _∷_}
@@ -22,14 +22,14 @@ flat v x y = v
 abbrev pub FlatRaster : ℕ → ℕ → ℕ → List ℕ → Type 0
 FlatRaster w h v raster = SameFrame w h (greyFrame w raster) (flat v)
 
--- n counts of 0
+-- n zeros
 abbrev pub zeros : ℕ → List ℕ
 zeros zero = []
 zeros (suc n) = 0 ∷ zeros n
 
--- an offset, and s + 1 levels of counts of 0
+-- an offset, and s + 1 levels of counts and compared numbers of 0
 abbrev pub blank : ℕ → Offset → Aligned
-blank s m = record { offset = m; counts = zeros (9 * (s + 1)) }
+blank s m = record { offset = m; counts = zeros (9 * (s + 1)); compared = zeros (9 * (s + 1)) }
 
 -- the results of the two pair calls for two equal flat frames: not moved, and in the corner (proved in proofs/FlatRasterLaws.antt as `flat-frames`)
 abbrev pub FlatFrames : Type 0
@@ -44,13 +44,13 @@ abbrev pub flatCounts : List ℕ
 flatCounts = 0 ∷ 0 ∷ 0 ∷ 0 ∷ 0 ∷ 0 ∷ 0 ∷ 0 ∷ 0 ∷ 0 ∷ 0 ∷ 0 ∷ 0 ∷ 0 ∷ 0 ∷ 0 ∷ 0 ∷ 0 ∷ 0 ∷ 0 ∷ 0 ∷ 0 ∷ 0 ∷ 0 ∷ 0 ∷ 0 ∷ 0 ∷ []
 
 abbrev pub flatUnmoved : Aligned
-flatUnmoved = record { offset = record { dx = pos 0; dy = pos 0 }; counts = flatCounts }
+flatUnmoved = record { offset = record { dx = pos 0; dy = pos 0 }; counts = flatCounts; compared = flatCounts }
 
 abbrev pub flatInCorner : Aligned
-flatInCorner = record { offset = record { dx = negsuc 6; dy = negsuc 6 }; counts = flatCounts }
+flatInCorner = record { offset = record { dx = negsuc 6; dy = negsuc 6 }; counts = flatCounts; compared = flatCounts }
 
 pub record FlatPlate : Type 0 where
-  pub accepted : pairRefusal 16 16 2 (toleranceRefusal 0) 50 768 768 27 672 96 ≡ 0
+  pub accepted : pairRefusal 16 16 2 (toleranceRefusal 0) 50 768 768 27 27 672 96 ≡ 0
   pub answers : (tolerance percentile v : ℕ) (first second : List ℕ) → 1 ≤ percentile → percentile ≤ 99 → v ≤ maxGrey
       → FlatRaster 16 16 v first → FlatRaster 16 16 v second
       → (pairResult leastMoveOrder (toleranceSetup 16 16 2 tolerance percentile) first second ≡ flatUnmoved)

@@ -15,7 +15,7 @@ use Rattle.rules.specs.Frames.{Frame}
 use Rattle.rules.specs.Greys.{halved}
 use Rattle.rules.specs.Thresholds.{threshold}
 use Rattle.rules.specs.Planes.{thresholdBit, exclusionBit, bitsBy}
-use Rattle.rules.specs.Differences.{Planes, difference}
+use Rattle.rules.specs.Differences.{Planes, difference, compared}
 
 -- "Offset (dx,dy) moves a frame right by dx and down by dy."
 abbrev pub still : Offset
@@ -114,18 +114,21 @@ unfoldable pub chosen : (Offset → ℕ) → List Offset → Offset
 chosen count [] = still
 chosen count (m ∷ ms) = firstLeast count m ms
 
--- the answer of a level and those below it: the offset, and the counts, "coarsest level first, in candidate order"
+-- the answer of a level and those below it: the offset, the counts, "coarsest level first, in candidate order", and the compared numbers "beside the
+-- counts, in the same order" (document 02, Paper 2)
 pub record Aligned : Type 0 where
   pub offset : Offset
   pub counts : List ℕ
+  pub compared : List ℕ
 
--- "With centre (cx,cy) the nine candidates are (cx+i, cy+j)": the level's answer after the coarser counts.
--- Candidates are preferred in the given order; "counts are still written in the former order", Ward's.
-unfoldable pub level : List Offset → (Offset → ℕ) → Offset → List ℕ → Aligned
-level order count centre coarser =
+-- "With centre (cx,cy) the nine candidates are (cx+i, cy+j)": the level's answer after the coarser counts and compared numbers.
+-- Candidates are preferred in the given order; "counts are still written in the former order", Ward's, and so are compared numbers.
+unfoldable pub level : List Offset → (Offset → ℕ) → (Offset → ℕ) → Offset → List ℕ → List ℕ → Aligned
+level order count outOf centre counts compared =
     record {
       offset = chosen count (map (added centre) order);
-      counts = coarser ++ map count (map (added centre) wardOrder);
+      counts = counts ++ map count (map (added centre) wardOrder);
+      compared = compared ++ map outOf (map (added centre) wardOrder);
     }
 
 -- the difference count of two grey frames at a candidate, "both frames with the same P"
@@ -133,12 +136,17 @@ unfoldable pub countAt : ExclusionRule → ℕ → ℕ → ℕ → Frame → Fra
 countAt exclusion percentile w h a b m =
     difference w h (m .dx) (m .dy) (planesBy exclusion percentile w h a) (planesBy exclusion percentile w h b)
 
+-- their compared number there
+unfoldable pub comparedAt : ExclusionRule → ℕ → ℕ → ℕ → Frame → Frame → Offset → ℕ
+comparedAt exclusion percentile w h a b m =
+    compared w h (m .dx) (m .dy) (planesBy exclusion percentile w h a) (planesBy exclusion percentile w h b)
+
 -- "A level's answer rests on that of the next coarser one, doubled; below the coarsest it is (0,0)." s halvings, so s + 1 levels.
 unfoldable pub pair : List Offset → ExclusionRule → ℕ → ℕ → ℕ → ℕ → Frame → Frame → Aligned
-pair order exclusion percentile zero w h a b = level order (countAt exclusion percentile w h a b) still []
+pair order exclusion percentile zero w h a b = level order (countAt exclusion percentile w h a b) (comparedAt exclusion percentile w h a b) still [] []
 pair order exclusion percentile (suc s) w h a b =
     let coarse = pair order exclusion percentile s (w / 2) (h / 2) (halved a) (halved b) in
-    level order (countAt exclusion percentile w h a b) (added (coarse .offset) (coarse .offset)) (coarse .counts)
+    level order (countAt exclusion percentile w h a b) (comparedAt exclusion percentile w h a b) (added (coarse .offset) (coarse .offset)) (coarse .counts) (coarse .compared)
 
 -- the answer of two grey frames, aligned as a setup says
 abbrev pub alignedBy : List Offset → Setup → Frame → Frame → Aligned

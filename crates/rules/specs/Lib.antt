@@ -18,5 +18,6 @@ pub mod Calls
 pub mod Examples
 pub mod TwoLevels
 pub mod Ties
+pub mod Shares
 pub mod BlankSky
 pub mod FlatFrames

@@ -84,7 +84,7 @@ greyLength w h = w * h
 abbrev pub bitmapLength : ℕ → ℕ → ℕ
 bitmapLength w h = rowWords w * h
 
--- the numbers of a pair's counts: "9·(s+1) 32-bit numbers"
+-- the numbers of a pair's counts, "9·(s+1) 32-bit numbers", and of its compared numbers, "a further buffer of the same length"
 abbrev pub countsLength : ℕ → ℕ
 countsLength s = 9 * (s + 1)
 
@@ -154,19 +154,19 @@ abbrev pub shapeRefusal : ℕ → ℕ → ℕ → ℕ
 shapeRefusal w h s = 2 when badSize w h orElse 3 when badHalvings s orElse 4 when tooSmall w h s
 
 -- `excluded` is the number that refuses the exclusion setting, 0 where none does.
-unfoldable pub pairRefusal : ℕ → ℕ → ℕ → ℕ → ℕ → ℕ → ℕ → ℕ → ℕ → ℕ → ℕ
-pairRefusal w h s excluded percentile first second counts grey words =
+unfoldable pub pairRefusal : ℕ → ℕ → ℕ → ℕ → ℕ → ℕ → ℕ → ℕ → ℕ → ℕ → ℕ → ℕ
+pairRefusal w h s excluded percentile first second counts compared grey words =
     2 when badSize w h
     orElse 3 when badHalvings s
     orElse 4 when tooSmall w h s
     orElse excluded
     orElse 8 when badPercentile percentile
     orElse 9 when (wrongLength (rasterLength w h) first || wrongLength (rasterLength w h) second)
-    orElse 10 when short (countsLength s) counts
+    orElse 10 when (short (countsLength s) counts || short (countsLength s) compared)
     orElse 11 when shortMemory s w h grey words
 
-unfoldable pub seriesRefusal : ℕ → ℕ → ℕ → ℕ → ℕ → ℕ → List ℕ → ℕ → ℕ → ℕ → ℕ → ℕ → ℕ
-seriesRefusal w h s excluded n r percentiles rasters offsets counts grey words =
+unfoldable pub seriesRefusal : ℕ → ℕ → ℕ → ℕ → ℕ → ℕ → List ℕ → ℕ → ℕ → ℕ → ℕ → ℕ → ℕ → ℕ
+seriesRefusal w h s excluded n r percentiles rasters offsets counts compared grey words =
     2 when badSize w h
     orElse 3 when badHalvings s
     orElse 4 when tooSmall w h s
@@ -175,5 +175,5 @@ seriesRefusal w h s excluded n r percentiles rasters offsets counts grey words =
     orElse 7 when badReference n r
     orElse 8 when badPercentiles n percentiles
     orElse 9 when wrongLength (n * rasterLength w h) rasters
-    orElse 10 when (short (2 * n) offsets || short (countsLength s * (n - 1)) counts)
+    orElse 10 when (short (2 * n) offsets || (short (countsLength s * (n - 1)) counts || short (countsLength s * (n - 1)) compared))
     orElse 11 when shortMemory s w h grey words

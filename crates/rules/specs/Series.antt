@@ -50,19 +50,24 @@ unfoldable pub offsetList : ℕ → (ℕ → Offset) → List ℤ
 offsetList zero f = []
 offsetList (suc n) f = offsetList n f ++ (f n .dx ∷ f n .dy ∷ [])
 
--- "counts run pair 1 first"
-unfoldable pub countList : ℕ → (ℕ → Aligned) → List ℕ
-countList zero pairs = []
-countList (suc n) pairs = countList n pairs ++ pairs n .counts
+-- the pairs' lists one after another: "counts run pair 1 first", and so do compared numbers
+unfoldable pub joined : ℕ → (ℕ → List ℕ) → List ℕ
+joined zero lists = []
+joined (suc n) lists = joined n lists ++ lists n
 
 pub record Answer : Type 0 where
   pub offsets : List ℤ
   pub counts : List ℕ
+  pub compared : List ℕ
 
 -- the answer of a series of N frames, from the answers of its pairs
 unfoldable pub answerOf : ℕ → ℕ → (ℕ → Aligned) → Answer
 answerOf n reference pairs =
-    record { offsets = offsetList n (frameOffset (λ k. pairs k .offset) reference); counts = countList (n - 1) pairs }
+    record {
+      offsets = offsetList n (frameOffset (λ k. pairs k .offset) reference);
+      counts = joined (n - 1) (λ k. pairs k .counts);
+      compared = joined (n - 1) (λ k. pairs k .compared);
+    }
 
 -- the pixel-by-pixel answer for an order of the nine candidates and an exclusion rule
 unfoldable pub answerBy : List Offset → ExclusionRule → Settings → List ℕ → Answer

@@ -51,11 +51,12 @@ tiedSecond =
 abbrev pub tiedBy : List Offset → Aligned
 tiedBy order = pairResult order (toleranceSetup 8 8 1 0 50) (colourless tiedFirst) (colourless tiedSecond)
 
+-- Every pixel that is kept is dark in the first frame and bright in the second, so that all that are compared differ: the compared numbers are the same.
 abbrev pub tiedCounts : List ℕ
 tiedCounts = 1 ∷ 2 ∷ 1 ∷ 1 ∷ 1 ∷ 2 ∷ 1 ∷ 1 ∷ 0 ∷ 3 ∷ 4 ∷ 3 ∷ 1 ∷ 2 ∷ 2 ∷ 2 ∷ 1 ∷ 2 ∷ []
 
--- a call accepts them, in buffers of just the lengths needed, and both orders write the same counts (proved in proofs/ExampleLaws.antt as `tied`)
+-- a call accepts them, in buffers of just the lengths needed, and both orders write the same counts and compared numbers (proved in proofs/ExampleLaws.antt as `tied`)
 pub record Tied : Type 0 where
-  pub accepted : pairRefusal 8 8 1 (toleranceRefusal 0) 50 192 192 18 160 48 ≡ 0
-  pub leastMove : tiedBy leastMoveOrder ≡ record { offset = record { dx = pos 3; dy = pos 2 }; counts = tiedCounts }
-  pub ward : tiedBy wardOrder ≡ record { offset = record { dx = pos 2; dy = pos 1 }; counts = tiedCounts }
+  pub accepted : pairRefusal 8 8 1 (toleranceRefusal 0) 50 192 192 18 18 160 48 ≡ 0
+  pub leastMove : tiedBy leastMoveOrder ≡ record { offset = record { dx = pos 3; dy = pos 2 }; counts = tiedCounts; compared = tiedCounts }
+  pub ward : tiedBy wardOrder ≡ record { offset = record { dx = pos 2; dy = pos 1 }; counts = tiedCounts; compared = tiedCounts }

@@ -29,7 +29,11 @@ slid8 = frameOf 8 (
     3 ∷ 9 ∷ 0 ∷ 6 ∷ 0 ∷ 0 ∷ 8 ∷ 0 ∷ [])
 
 abbrev pub slidBack : Aligned
-slidBack = record { offset = record { dx = negsuc 0; dy = pos 2 }; counts = 3 ∷ 2 ∷ 2 ∷ 2 ∷ 5 ∷ 1 ∷ 3 ∷ 2 ∷ 2 ∷ 20 ∷ 0 ∷ 15 ∷ 19 ∷ 22 ∷ 24 ∷ 23 ∷ 21 ∷ 12 ∷ [] }
+slidBack = record {
+  offset = record { dx = negsuc 0; dy = pos 2 };
+  counts = 3 ∷ 2 ∷ 2 ∷ 2 ∷ 5 ∷ 1 ∷ 3 ∷ 2 ∷ 2 ∷ 20 ∷ 0 ∷ 15 ∷ 19 ∷ 22 ∷ 24 ∷ 23 ∷ 21 ∷ 12 ∷ [];
+  compared = 6 ∷ 7 ∷ 5 ∷ 9 ∷ 12 ∷ 9 ∷ 5 ∷ 7 ∷ 5 ∷ 43 ∷ 39 ∷ 31 ∷ 49 ∷ 41 ∷ 36 ∷ 43 ∷ 36 ∷ 31 ∷ [];
+}
 
 -- s = 1, T = 0, P = 50 (proved in proofs/ExampleLaws.antt)
 abbrev pub TwoLevels : Type 0

@@ -6,9 +6,21 @@ pub enum Written {
     Refused(u32),
 }
 
-// The answer of a call that counts pixels.
+// The answer of the total call.
 pub enum Counted {
     Count(u32),
+    Refused(u32),
+}
+
+// The difference count at an offset, and out of how many pixels.
+pub struct Tally {
+    pub count: u32,
+    pub compared: u32,
+}
+
+// The answer of the difference call.
+pub enum Tallied {
+    Tally(Tally),
     Refused(u32),
 }
 

@@ -10,8 +10,8 @@ use series_in_order::series_in_order;
 ghost use Rattle.rules.specs.Levels.{wardOrder, leastMoveOrder};
 ghost use Rattle.rules.specs.Calls.{toleranceSettings, SeriesCall};
 
-// The offsets of all frames of a series from its reference, and the counts of its pairs. Among equal
-// counts the least move is preferred.
+// The offsets of all frames of a series from its reference, and the counts and compared numbers of its
+// pairs. Among equal counts the least move is preferred.
 pub fn series(
     w: usize,
     h: usize,
@@ -23,12 +23,13 @@ pub fn series(
     rasters: &[u8],
     offsets: &mut [i32],
     counts: &mut [u32],
+    compared: &mut [u32],
     grey: &mut [u8],
     words: &mut [u64],
 ) -> Written
     ensures { λ k. ⌜
         SeriesCall leastMoveOrder (toleranceSettings w h s tolerance n r (now (percentiles .entry))) (now (rasters .entry))
-        (now (offsets .entry)) (now (offsets .exit)) (now (counts .entry)) (now (counts .exit))
+        (now (offsets .entry)) (now (offsets .exit)) (now (counts .entry)) (now (counts .exit)) (now (compared .entry)) (now (compared .exit))
         (now (grey .entry)) (now (grey .exit)) (now (words .entry)) (now (words .exit)) k
         ⌝ }
 {
@@ -49,6 +50,7 @@ pub fn series(
         rasters,
         offsets,
         counts,
+        compared,
         grey,
         words,
         &order,
@@ -67,12 +69,13 @@ pub fn series_ward(
     rasters: &[u8],
     offsets: &mut [i32],
     counts: &mut [u32],
+    compared: &mut [u32],
     grey: &mut [u8],
     words: &mut [u64],
 ) -> Written
     ensures { λ k. ⌜
         SeriesCall wardOrder (toleranceSettings w h s tolerance n r (now (percentiles .entry))) (now (rasters .entry))
-        (now (offsets .entry)) (now (offsets .exit)) (now (counts .entry)) (now (counts .exit))
+        (now (offsets .entry)) (now (offsets .exit)) (now (counts .entry)) (now (counts .exit)) (now (compared .entry)) (now (compared .exit))
         (now (grey .entry)) (now (grey .exit)) (now (words .entry)) (now (words .exit)) k
         ⌝ }
 {
@@ -93,6 +96,7 @@ pub fn series_ward(
         rasters,
         offsets,
         counts,
+        compared,
         grey,
         words,
         &order,

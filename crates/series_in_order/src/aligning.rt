@@ -14,7 +14,8 @@ ghost use Rattle.series_in_order.specs.Settings.{settingsOf};
 // Two numbers for each pair of the longest series.
 const PAIR_NUMBERS: usize = 30;
 
-// The offsets of the frames and the counts of the pairs, candidates being preferred in the given order.
+// The offsets of the frames, and the counts and compared numbers of the pairs, candidates being preferred
+// in the given order.
 pub fn align_series(
     setup: Setup,
     n: usize,
@@ -23,13 +24,14 @@ pub fn align_series(
     rasters: &[u8],
     offsets: &mut [i32],
     counts: &mut [u32],
+    compared: &mut [u32],
     grey: &mut [u8],
     words: &mut [u64],
     order: &[usize; 9],
 )
     requires accepted { ⌜
         SeriesOk (setup .w) (setup .h) (setup .s) n r (now percentiles)
-        (length (now rasters)) (length (now offsets)) (length (now counts)) (length (now grey)) (length (now words))
+        (length (now rasters)) (length (now offsets)) (length (now counts)) (length (now compared)) (length (now grey)) (length (now words))
         ⌝ }
     requires order { ⌜ Arrangement (now order) ⌝ }
     ensures offsets { λ _. ⌜
@@ -40,6 +42,10 @@ pub fn align_series(
         now (counts .exit)
         ≡ writtenOver (seriesAnswer (arranged (now (order .entry))) (settingsOf setup n r (now (percentiles .entry))) (now (rasters .entry)) .counts) (now (counts .entry))
         ⌝ }
+    ensures compared { λ _. ⌜
+        now (compared .exit)
+        ≡ writtenOver (seriesAnswer (arranged (now (order .entry))) (settingsOf setup n r (now (percentiles .entry))) (now (rasters .entry)) .compared) (now (compared .entry))
+        ⌝ }
 {
     let mut pairs = [0i32; PAIR_NUMBERS];
     align_pairs(
@@ -49,6 +55,7 @@ pub fn align_series(
         rasters,
         &mut pairs,
         counts,
+        compared,
         grey,
         words,
         order,

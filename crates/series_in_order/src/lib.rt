@@ -11,9 +11,9 @@ ghost use Rattle.rules.specs.Levels.{Arrangement, arranged};
 ghost use Rattle.rules.specs.Calls.{exclusionRefusal, SeriesCall};
 ghost use Rattle.series_in_order.specs.Settings.{settingsOf};
 
-// The offsets of all frames of a series from its reference, and the counts of its pairs. Candidates are
-// preferred in the given order; `excluded` is the number that refuses the exclusion setting, or 0. Each
-// pair's percentile takes the place of the setup's.
+// The offsets of all frames of a series from its reference, and the counts and compared numbers of its
+// pairs. Candidates are preferred in the given order; `excluded` is the number that refuses the exclusion
+// setting, or 0. Each pair's percentile takes the place of the setup's.
 pub fn series_in_order(
     setup: Setup,
     excluded: u32,
@@ -23,6 +23,7 @@ pub fn series_in_order(
     rasters: &[u8],
     offsets: &mut [i32],
     counts: &mut [u32],
+    compared: &mut [u32],
     grey: &mut [u8],
     words: &mut [u64],
     order: &[usize; 9],
@@ -31,7 +32,7 @@ pub fn series_in_order(
     requires order { ⌜ Arrangement (now order) ⌝ }
     ensures { λ k. ⌜
         SeriesCall (arranged (now (order .entry))) (settingsOf setup n r (now (percentiles .entry))) (now (rasters .entry))
-        (now (offsets .entry)) (now (offsets .exit)) (now (counts .entry)) (now (counts .exit))
+        (now (offsets .entry)) (now (offsets .exit)) (now (counts .entry)) (now (counts .exit)) (now (compared .entry)) (now (compared .exit))
         (now (grey .entry)) (now (grey .exit)) (now (words .entry)) (now (words .exit)) k
         ⌝ }
 {
@@ -53,6 +54,7 @@ pub fn series_in_order(
         rasters.len(),
         offsets.len(),
         counts.len(),
+        compared.len(),
         grey.len(),
         words.len(),
     );
@@ -67,6 +69,7 @@ pub fn series_in_order(
         rasters,
         offsets,
         counts,
+        compared,
         grey,
         words,
         order,

@@ -16,17 +16,18 @@ pub fn align_pairs(
     rasters: &[u8],
     pairs: &mut [i32],
     counts: &mut [u32],
+    compared: &mut [u32],
     grey: &mut [u8],
     words: &mut [u64],
     order: &[usize; 9],
 )
     requires accepted { ⌜
-        PairsOk setup n (now percentiles) (length (now rasters)) (length (now pairs)) (length (now counts)) (length (now grey)) (length (now words))
+        PairsOk setup n (now percentiles) (length (now rasters)) (length (now pairs)) (length (now counts)) (length (now compared)) (length (now grey)) (length (now words))
         ⌝ }
     requires order { ⌜ Arrangement (now order) ⌝ }
     ensures { λ _. ⌜
         AllRan n (pairsOf (arranged (now (order .entry))) setup (now (percentiles .entry)) (now (rasters .entry)))
-        (now (pairs .entry)) (now (pairs .exit)) (now (counts .entry)) (now (counts .exit))
+        (now (pairs .entry)) (now (pairs .exit)) (now (counts .entry)) (now (counts .exit)) (now (compared .entry)) (now (compared .exit))
         ⌝ }
 {
     let Setup {
@@ -40,14 +41,26 @@ pub fn align_pairs(
     let table = BIT_COUNTS;
     let mut k: usize = 0;
     while k + 1 < n {
+        let percentile = percentiles[k];
         let own = Setup {
             w,
             h,
             s,
-            percentile: percentiles[k],
+            percentile,
             exclusion,
         };
-        align_next(own, k, rasters, pairs, counts, grey, words, order, &table);
+        align_next(
+            own,
+            k,
+            rasters,
+            pairs,
+            counts,
+            compared,
+            grey,
+            words,
+            order,
+            &table,
+        );
         k += 1;
     }
 }

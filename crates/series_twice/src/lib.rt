@@ -27,12 +27,13 @@ fn series_by(
     rasters: &[u8],
     offsets: &mut [i32],
     counts: &mut [u32],
+    compared: &mut [u32],
     grey: &mut [u8],
     words: &mut [u64],
 ) -> Written
     ensures { λ k. ⌜
         SeriesCall (orderOf order) (toleranceSettings w h s tolerance n r (now (percentiles .entry))) (now (rasters .entry))
-        (now (offsets .entry)) (now (offsets .exit)) (now (counts .entry)) (now (counts .exit))
+        (now (offsets .entry)) (now (offsets .exit)) (now (counts .entry)) (now (counts .exit)) (now (compared .entry)) (now (compared .exit))
         (now (grey .entry)) (now (grey .exit)) (now (words .entry)) (now (words .exit)) k
         ⌝ }
 {
@@ -48,6 +49,7 @@ fn series_by(
             rasters,
             offsets,
             counts,
+            compared,
             grey,
             words,
         ),
@@ -62,6 +64,7 @@ fn series_by(
             rasters,
             offsets,
             counts,
+            compared,
             grey,
             words,
         ),
@@ -86,6 +89,8 @@ pub fn align_twice(
     offsets2: &mut [i32],
     counts1: &mut [u32],
     counts2: &mut [u32],
+    compared1: &mut [u32],
+    compared2: &mut [u32],
     grey1: &mut [u8],
     grey2: &mut [u8],
     words1: &mut [u64],
@@ -93,21 +98,21 @@ pub fn align_twice(
 ) -> Answers
     ensures first { λ k. ⌜
         SeriesCall (orderOf order) (toleranceSettings w h s tolerance n r (now (percentiles .entry))) (now (rasters1 .entry))
-        (now (offsets1 .entry)) (now (offsets1 .exit)) (now (counts1 .entry)) (now (counts1 .exit))
+        (now (offsets1 .entry)) (now (offsets1 .exit)) (now (counts1 .entry)) (now (counts1 .exit)) (now (compared1 .entry)) (now (compared1 .exit))
         (now (grey1 .entry)) (now (grey1 .exit)) (now (words1 .entry)) (now (words1 .exit)) (k .first)
         ⌝ }
     ensures second { λ k. ⌜
         SeriesCall (orderOf order) (toleranceSettings w h s tolerance n r (now (percentiles .entry))) (now (rasters2 .entry))
-        (now (offsets2 .entry)) (now (offsets2 .exit)) (now (counts2 .entry)) (now (counts2 .exit))
+        (now (offsets2 .entry)) (now (offsets2 .exit)) (now (counts2 .entry)) (now (counts2 .exit)) (now (compared2 .entry)) (now (compared2 .exit))
         (now (grey2 .entry)) (now (grey2 .exit)) (now (words2 .entry)) (now (words2 .exit)) (k .second)
         ⌝ }
     ensures demand { λ k. ⌜
         (Given (toleranceSettings w h s tolerance n r (now (percentiles .entry))) (now (rasters1 .entry)) (now (rasters2 .entry))
-        (now (offsets1 .entry)) (now (offsets2 .entry)) (now (counts1 .entry)) (now (counts2 .entry))
+        (now (offsets1 .entry)) (now (offsets2 .entry)) (now (counts1 .entry)) (now (counts2 .entry)) (now (compared1 .entry)) (now (compared2 .entry))
         (now (grey1 .entry)) (now (grey2 .entry)) (now (words1 .entry)) (now (words2 .entry))
         → Demanded (orderOf order) (toleranceSettings w h s tolerance n r (now (percentiles .entry))) (now (rasters2 .entry)) (k .second)
-        (packedAnswer (toleranceSettings w h s tolerance n r (now (percentiles .entry))) (now (offsets1 .exit)) (now (counts1 .exit)))
-        (packedAnswer (toleranceSettings w h s tolerance n r (now (percentiles .entry))) (now (offsets2 .exit)) (now (counts2 .exit))))
+        (packedAnswer (toleranceSettings w h s tolerance n r (now (percentiles .entry))) (now (offsets1 .exit)) (now (counts1 .exit)) (now (compared1 .exit)))
+        (packedAnswer (toleranceSettings w h s tolerance n r (now (percentiles .entry))) (now (offsets2 .exit)) (now (counts2 .exit)) (now (compared2 .exit))))
         ⌝ }
 {
     let first = series_by(
@@ -122,6 +127,7 @@ pub fn align_twice(
         rasters1,
         offsets1,
         counts1,
+        compared1,
         grey1,
         words1,
     );
@@ -137,6 +143,7 @@ pub fn align_twice(
         rasters2,
         offsets2,
         counts2,
+        compared2,
         grey2,
         words2,
     );

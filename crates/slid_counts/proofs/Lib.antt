@@ -1,3 +1,3 @@
--- Laws of slid bitmaps and of the counts over them.
+-- Laws of slid bitmaps and of the numbers over them.
 pub mod SlidPartLaws
 pub mod SlidCountLaws

@@ -3,16 +3,17 @@ use mathlib.Core.Path.{_≡_, ap, _∙_}
 use mathlib.Core.List.{List}
 use Prim.Native.Nat.{ℕ, _*_, _-_}
 use native.Mathlib.Omega.{arith}
-use lib.IntN.{ℤ, pos}
+use lib.IntN.{ℤ}
 use lib.ListN.{length, take, drop, length-drop}
 use lib.Seq.{take-all}
 use mir.Syntax.{w32}
 use mir.Val.{SFits, toZ, ofZ}
 use mir.Facts.{toZ-ofZ}
 use Rattle.rules.specs.Bitmaps.{rowWords}
-use Rattle.rules.specs.Differences.{difference}
+use Rattle.rules.specs.Differences.{Planes}
 use Rattle.rules.specs.Calls.{planesOf}
 use Rattle.word_runs.specs.WordRuns.{Clean}
+use Rattle.slid_counts.specs.SlidPlaces.{firstIn, slidIn}
 
 -- a list from place n on, as it is lent
 abbrev lentFrom : ℕ → List ℕ → List ℕ
@@ -21,16 +22,15 @@ lentFrom n l = take (length l - n) (drop n l)
 lent-is : (n : ℕ) (l : List ℕ) → lentFrom n l ≡ drop n l
 lent-is n l = take-all (length l - n) (drop n l) (let a = length-drop n l in omega arith)
 
--- the parts of the words from their bitmaps on, for the count against the slid frame
+-- the parts of the words from their bitmaps on, for the numbers against the slid frame
 module _ (w h n : ℕ) (words : List ℕ) (e : n ≡ rowWords w * h) where
   pub parts-clean : Clean w h (drop (5 * (rowWords w * h)) words) → Clean w h (lentFrom (5 * n) words)
   parts-clean clean = rw (lent-is (5 * n) words, e) clean
 
-  pub parts-count : (dy : ℤ) (r : ℕ) → SFits w32 dy
-      → r ≡ difference w h (pos 0) (toZ w32 (ofZ w32 dy)) (planesOf w h words (lentFrom n words)) (planesOf w h (lentFrom (4 * n) words) (lentFrom (5 * n) words))
-      → r
-      ≡ difference w h (pos 0) dy (planesOf w h words (drop (rowWords w * h) words)) (planesOf w h (drop (4 * (rowWords w * h)) words) (drop (5 * (rowWords w * h)) words))
-  parts-count dy r fits c =
-      c
-      ∙ (λ i. difference w h (pos 0) (toZ-ofZ fits i) (planesOf w h words (lent-is n words i)) (planesOf w h (lent-is (4 * n) words i) (lent-is (5 * n) words i)))
-      ∙ ap (λ (m : ℕ). difference w h (pos 0) dy (planesOf w h words (drop m words)) (planesOf w h (drop (4 * m) words) (drop (5 * m) words))) e
+  -- any number of the planes
+  pub parts-same : (number : ℤ → Planes → Planes → ℕ) (dy : ℤ) → SFits w32 dy
+      → number (toZ w32 (ofZ w32 dy)) (planesOf w h words (lentFrom n words)) (planesOf w h (lentFrom (4 * n) words) (lentFrom (5 * n) words))
+      ≡ number dy (firstIn w h words) (slidIn w h words)
+  parts-same number dy fits =
+      (λ i. number (toZ-ofZ fits i) (planesOf w h words (lent-is n words i)) (planesOf w h (lent-is (4 * n) words i) (lent-is (5 * n) words i)))
+      ∙ ap (λ (m : ℕ). number dy (planesOf w h words (drop m words)) (planesOf w h (drop (4 * m) words) (drop (5 * m) words))) e

@@ -1,2 +1,2 @@
--- What a count against a slid frame requires and gives.
+-- What the two numbers against a slid frame require and give.
 pub mod SlidPlaces

@@ -11,6 +11,8 @@ const WORD: u64 = 0xA5A5A5A5A5A5A5A5;
 
 pub const COUNT: u32 = 0xC3C3C3C3;
 
+pub const COMPARED: u32 = 0xB4B4B4B4;
+
 pub const OFFSET: i32 = 0x5A5A5A5A;
 
 pub fn fill_bytes(out: &mut [u8]) {
@@ -73,7 +75,7 @@ pub fn lend_words(memory: &mut [u64], n: usize) -> &mut [u64] {
     &mut memory[0..n]
 }
 
-// The first n elements of a room that holds COUNT or OFFSET.
+// The first n elements of a room that holds COUNT, COMPARED or OFFSET.
 pub fn lend_counts(room: &mut [u32], n: usize) -> &mut [u32] {
     if room.len() < n {
         return &mut room[0..0];

@@ -1,6 +1,7 @@
 // Test vectors of bitmaps, shift, total and difference.
 
 use rules::Counted;
+use rules::Tallied;
 use rules::Written;
 use vectors::answers::DIFFERS;
 use vectors::answers::number_when;
@@ -22,6 +23,7 @@ use vectors_data::data::PERCENTILE;
 use vectors_data::data::REFUSAL;
 use vectors_data::data::TOLERANCE;
 use vectors_data::data::VALUE1;
+use vectors_data::data::VALUE2;
 use vectors_data::data::WIDTH;
 use vectors_data::data::field;
 use vectors_data::data::input;
@@ -32,7 +34,7 @@ use vectors_data::data::signed;
 use vectors_data::data::size;
 use vectors_data::tally;
 
-const DATA_MEMORY: usize = 262144;
+const DATA_MEMORY: usize = 320000;
 
 // The most words of a stored bitmap.
 const MOST_WORDS: usize = 128;
@@ -102,7 +104,7 @@ fn total_number(data: &[u8], at: usize) -> u32 {
 }
 
 // The bitmaps of the second frame are read here, those of the first below.
-fn difference_with(data: &[u8], at: usize, threshold1: &[u64], exclusion1: &[u64]) -> Counted {
+fn difference_with(data: &[u8], at: usize, threshold1: &[u64], exclusion1: &[u64]) -> Tallied {
     let set = setup_of(data, at);
     let mut room1 = [0u64; MOST_WORDS];
     let mut room2 = [0u64; MOST_WORDS];
@@ -120,13 +122,23 @@ fn difference_with(data: &[u8], at: usize, threshold1: &[u64], exclusion1: &[u64
     )
 }
 
+fn tallied_as(data: &[u8], at: usize, count: u32, compared: u32) -> bool {
+    count == field(data, at, VALUE1) && compared == field(data, at, VALUE2)
+}
+
+fn tallied(answer: Tallied, data: &[u8], at: usize) -> u32 {
+    match answer {
+        Tallied::Tally(found) => number_when(tallied_as(data, at, found.count, found.compared)),
+        Tallied::Refused(n) => n,
+    }
+}
+
 fn difference_number(data: &[u8], at: usize) -> u32 {
     let mut room1 = [0u64; MOST_WORDS];
     let mut room2 = [0u64; MOST_WORDS];
     let threshold1 = input_words(data, at, INPUT1, &mut room1);
     let exclusion1 = input_words(data, at, INPUT2, &mut room2);
-    let answer = difference_with(data, at, threshold1, exclusion1);
-    counted(answer, field(data, at, VALUE1))
+    tallied(difference_with(data, at, threshold1, exclusion1), data, at)
 }
 
 // Calls have the numbers of tests/FORMAT.md.

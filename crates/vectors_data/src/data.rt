@@ -14,7 +14,7 @@ const HEADER_BYTES: usize = 20;
 
 const GROUP_BYTES: usize = 16;
 
-const RECORD_BYTES: usize = 128;
+const RECORD_BYTES: usize = 136;
 
 // Numbers of a record.
 pub const CALL: usize = 0;
@@ -52,26 +52,28 @@ pub const OUTPUT1: usize = 19;
 
 pub const OUTPUT2: usize = 21;
 
-pub const GREY: usize = 23;
+pub const OUTPUT3: usize = 23;
 
-pub const WORDS: usize = 25;
+pub const GREY: usize = 25;
 
-pub const VALUE1: usize = 27;
+pub const WORDS: usize = 27;
 
-pub const VALUE2: usize = 28;
+pub const VALUE1: usize = 29;
 
-pub const VALUE3: usize = 29;
+pub const VALUE2: usize = 30;
 
-pub const VALUE4: usize = 30;
+pub const VALUE3: usize = 31;
+
+pub const VALUE4: usize = 32;
 
 // Made frames: how many bytes, and the rows of a frame.
-pub const MADE: usize = 29;
+pub const MADE: usize = 31;
 
-pub const MADE_ROWS: usize = 30;
+pub const MADE_ROWS: usize = 32;
 
-pub const SCENE: usize = 31;
+pub const SCENE: usize = 33;
 
-const FIELDS: usize = 32;
+const FIELDS: usize = 34;
 
 fn byte_at(bytes: &[u8], at: usize) -> u8 {
     if at < bytes.len() { bytes[at] } else { 0 }

@@ -22,7 +22,7 @@ use vectors_data::data::record_count;
 use vectors_data::data::size;
 use vectors_data::tally;
 
-const DATA_MEMORY: usize = 131072;
+const DATA_MEMORY: usize = 140000;
 
 const BYTE_MEMORY: usize = 4096;
 

@@ -3,6 +3,7 @@
 use rules::Paired;
 use vectors::answers::DIFFERS;
 use vectors::answers::number_when;
+use vectors::buffers::COMPARED;
 use vectors::buffers::COUNT;
 use vectors::buffers::lend_bytes;
 use vectors::buffers::lend_counts;
@@ -16,6 +17,7 @@ use vectors_data::data::HEIGHT;
 use vectors_data::data::INPUT1;
 use vectors_data::data::INPUT2;
 use vectors_data::data::OUTPUT1;
+use vectors_data::data::OUTPUT2;
 use vectors_data::data::PERCENTILE;
 use vectors_data::data::REFUSAL;
 use vectors_data::data::TOLERANCE;
@@ -34,7 +36,7 @@ use vectors_data::tally;
 use vectors_scene::make_frames;
 
 // The file, and after it the made bytes of the largest frames.
-const DATA_MEMORY: usize = 3800000;
+const DATA_MEMORY: usize = 3830000;
 
 const GREY_MEMORY: usize = 2830000;
 
@@ -79,6 +81,7 @@ fn pair_of(
     data: &[u8],
     at: usize,
     counts: &mut [u32],
+    compared: &mut [u32],
     grey: &mut [u8],
     words: &mut [u64],
 ) -> Paired {
@@ -95,6 +98,7 @@ fn pair_of(
             first,
             second,
             counts,
+            compared,
             grey,
             words,
         );
@@ -108,17 +112,34 @@ fn pair_of(
         first,
         second,
         counts,
+        compared,
         grey,
         words,
     )
 }
 
+fn number_with(
+    data: &[u8],
+    at: usize,
+    counts: &mut [u32],
+    grey: &mut [u8],
+    words: &mut [u64],
+) -> u32 {
+    let mut room = [COMPARED; MOST_COUNTS];
+    let compared = lend_counts(&mut room, size(data, at, OUTPUT2));
+    let answer = pair_of(data, at, counts, compared, grey, words);
+    if counts_are(compared, data, at, OUTPUT2) {
+        return number_of(answer, data, at);
+    }
+    DIFFERS
+}
+
 fn pair_number(data: &[u8], at: usize, grey: &mut [u8], words: &mut [u64]) -> u32 {
     let mut room = [COUNT; MOST_COUNTS];
     let counts = lend_counts(&mut room, size(data, at, OUTPUT1));
-    let answer = pair_of(data, at, counts, grey, words);
+    let n = number_with(data, at, counts, grey, words);
     if counts_are(counts, data, at, OUTPUT1) {
-        return number_of(answer, data, at);
+        return n;
     }
     DIFFERS
 }

@@ -3,6 +3,7 @@
 use rules::Written;
 use vectors::answers::DIFFERS;
 use vectors::answers::written;
+use vectors::buffers::COMPARED;
 use vectors::buffers::COUNT;
 use vectors::buffers::OFFSET;
 use vectors::buffers::input_numbers;
@@ -22,6 +23,7 @@ use vectors_data::data::INPUT1;
 use vectors_data::data::INPUT2;
 use vectors_data::data::OUTPUT1;
 use vectors_data::data::OUTPUT2;
+use vectors_data::data::OUTPUT3;
 use vectors_data::data::REFERENCE;
 use vectors_data::data::REFUSAL;
 use vectors_data::data::TOLERANCE;
@@ -79,6 +81,7 @@ fn series_of(
     percentiles: &[u32],
     offsets: &mut [i32],
     counts: &mut [u32],
+    compared: &mut [u32],
     grey: &mut [u8],
     words: &mut [u64],
 ) -> Written {
@@ -96,6 +99,7 @@ fn series_of(
             rasters,
             offsets,
             counts,
+            compared,
             grey,
             words,
         );
@@ -111,25 +115,53 @@ fn series_of(
         rasters,
         offsets,
         counts,
+        compared,
         grey,
         words,
     )
 }
 
-fn counted_series(
+fn series_with(
+    data: &[u8],
+    at: usize,
+    offsets: &mut [i32],
+    counts: &mut [u32],
+    compared: &mut [u32],
+    grey: &mut [u8],
+    words: &mut [u64],
+) -> Written {
+    let mut room = [0u32; MOST_PERCENTILES];
+    let percentiles = input_numbers(data, at, INPUT1, &mut room);
+    series_of(
+        data,
+        at,
+        percentiles,
+        offsets,
+        counts,
+        compared,
+        grey,
+        words,
+    )
+}
+
+fn compared_number(
     data: &[u8],
     at: usize,
     offsets: &mut [i32],
     counts: &mut [u32],
     grey: &mut [u8],
     words: &mut [u64],
-) -> Written {
-    let mut room = [0u32; MOST_PERCENTILES];
-    let percentiles = input_numbers(data, at, INPUT1, &mut room);
-    series_of(data, at, percentiles, offsets, counts, grey, words)
+) -> u32 {
+    let mut room = [COMPARED; MOST_COUNTS];
+    let compared = lend_counts(&mut room, size(data, at, OUTPUT3));
+    let answer = series_with(data, at, offsets, counts, compared, grey, words);
+    if counts_are(compared, data, at, OUTPUT3) {
+        return written(answer);
+    }
+    DIFFERS
 }
 
-fn number_with(
+fn counted_number(
     data: &[u8],
     at: usize,
     offsets: &mut [i32],
@@ -138,9 +170,9 @@ fn number_with(
 ) -> u32 {
     let mut room = [COUNT; MOST_COUNTS];
     let counts = lend_counts(&mut room, size(data, at, OUTPUT2));
-    let answer = counted_series(data, at, offsets, counts, grey, words);
+    let n = compared_number(data, at, offsets, counts, grey, words);
     if counts_are(counts, data, at, OUTPUT2) {
-        return written(answer);
+        return n;
     }
     DIFFERS
 }
@@ -148,7 +180,7 @@ fn number_with(
 fn series_number(data: &[u8], at: usize, grey: &mut [u8], words: &mut [u64]) -> u32 {
     let mut room = [OFFSET; MOST_OFFSETS];
     let offsets = lend_offsets(&mut room, size(data, at, OUTPUT1));
-    let n = number_with(data, at, offsets, grey, words);
+    let n = counted_number(data, at, offsets, grey, words);
     if offsets_are(offsets, data, at, OUTPUT1) {
         return n;
     }

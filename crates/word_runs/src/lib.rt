@@ -1,17 +1,22 @@
-// The differences of two runs of whole words, with no edge at the ends of rows: seven words at a time.
+// The differences and the compared pixels of two runs of whole words, with no edge at the ends of rows:
+// eight words at a time.
 
-use popcount::adder::seven_word_count;
-use popcount::table::word_count;
+use tallies::Counters;
+use tallies::Words;
+use tallies::counter::NOTHING;
+use tallies::tally_eight;
+use tallies::tally_held;
+use tallies::word_tally;
 ghost use mathlib.Core.Path.{_≡_};
 ghost use Prim.Native.Nat.{_+_, _*_, _%_, _<_, _≤_};
 ghost use Rattle.rules.specs.Limits.{wordBits};
 ghost use Rattle.rules.specs.Sums.{sum};
-ghost use Rattle.words.specs.Rows.{WordOf};
 ghost use Rattle.popcount.specs.Table.{CountsBits};
 ghost use Rattle.popcount.specs.RowCounts.{Adds};
-ghost use Rattle.word_runs.specs.WordRuns.{runDiffer, RunsIn};
+ghost use Rattle.tallies.specs.Tallies.{WordsOf};
+ghost use Rattle.word_runs.specs.WordRuns.{runDiffer, runKept, runTally, RunsIn, CountedTo};
 
-// The pixels at which word k of the two runs differs.
+// The pixels at which word k of the two runs differs, and those that are compared.
 fn run_word(
     t1: &[u64],
     e1: &[u64],
@@ -21,16 +26,21 @@ fn run_word(
     x: usize,
     len: usize,
     k: usize,
-) -> u64
+) -> Words
     requires here { ⌜ k < len ⌝ }
     requires runs { ⌜ RunsIn (now t1) (now e1) (now t2) (now e2) i x len ⌝ }
-    ensures { λ v. ⌜ WordOf (runDiffer (now (t1 .entry)) (now (e1 .entry)) (now (t2 .entry)) (now (e2 .entry)) i x) k v ⌝ }
+    ensures { λ v. ⌜
+        WordsOf (runDiffer (now (t1 .entry)) (now (e1 .entry)) (now (t2 .entry)) (now (e2 .entry)) i x)
+        (runKept (now (e1 .entry)) (now (e2 .entry)) i x) k v
+        ⌝ }
 {
-    (t1[i + k] ^ t2[x + k]) & (e1[i + k] & e2[x + k])
+    let kept = e1[i + k] & e2[x + k];
+    let differing = (t1[i + k] ^ t2[x + k]) & kept;
+    Words { differing, kept }
 }
 
-// Seven words, from k on.
-fn run_block(
+// Eight words more, from k on.
+fn run_eight(
     t1: &[u64],
     e1: &[u64],
     t2: &[u64],
@@ -39,14 +49,17 @@ fn run_block(
     x: usize,
     len: usize,
     k: usize,
+    before: Counters,
     table: &[u8; 256],
-) -> u32
-    requires here { ⌜ k + 7 ≤ len ⌝ }
+) -> Counters
+    requires here { ⌜ k + 8 ≤ len ⌝ }
     requires runs { ⌜ RunsIn (now t1) (now e1) (now t2) (now e2) i x len ⌝ }
+    requires counted { ⌜ CountedTo (now t1) (now e1) (now t2) (now e2) i x k before ⌝ }
     requires table { ⌜ CountsBits (now table) ⌝ }
-    ensures { λ r. ⌜ Adds (runDiffer (now (t1 .entry)) (now (e1 .entry)) (now (t2 .entry)) (now (e2 .entry)) i x) k (k + 7) r ⌝ }
+    ensures { λ r. ⌜ CountedTo (now (t1 .entry)) (now (e1 .entry)) (now (t2 .entry)) (now (e2 .entry)) i x (k + 8) r ⌝ }
 {
-    seven_word_count(
+    tally_eight(
+        before,
         run_word(t1, e1, t2, e2, i, x, len, k),
         run_word(t1, e1, t2, e2, i, x, len, k + 1),
         run_word(t1, e1, t2, e2, i, x, len, k + 2),
@@ -54,12 +67,13 @@ fn run_block(
         run_word(t1, e1, t2, e2, i, x, len, k + 4),
         run_word(t1, e1, t2, e2, i, x, len, k + 5),
         run_word(t1, e1, t2, e2, i, x, len, k + 6),
+        run_word(t1, e1, t2, e2, i, x, len, k + 7),
         table,
     )
 }
 
-// The words up to `rest`, seven at a time.
-fn run_blocks(
+// The words up to `rest`, eight at a time.
+fn run_eights(
     t1: &[u64],
     e1: &[u64],
     t2: &[u64],
@@ -69,19 +83,22 @@ fn run_blocks(
     len: usize,
     rest: usize,
     table: &[u8; 256],
-) -> u32
-    requires sevens { ⌜ (rest % 7 ≡ 0) × (rest ≤ len) ⌝ }
+) -> u64
+    requires eights { ⌜ (rest % 8 ≡ 0) × (rest ≤ len) ⌝ }
     requires runs { ⌜ RunsIn (now t1) (now e1) (now t2) (now e2) i x len ⌝ }
     requires table { ⌜ CountsBits (now table) ⌝ }
-    ensures { λ r. ⌜ Adds (runDiffer (now (t1 .entry)) (now (e1 .entry)) (now (t2 .entry)) (now (e2 .entry)) i x) 0 rest r ⌝ }
+    ensures { λ r. ⌜ Adds (runTally (now (t1 .entry)) (now (e1 .entry)) (now (t2 .entry)) (now (e2 .entry)) i x) 0 rest r ⌝ }
 {
-    let mut count: u32 = 0;
+    let mut counters = Counters {
+        differing: NOTHING,
+        kept: NOTHING,
+    };
     let mut k: usize = 0;
     while k < rest {
-        count += run_block(t1, e1, t2, e2, i, x, len, k, table);
-        k += 7;
+        counters = run_eight(t1, e1, t2, e2, i, x, len, k, counters, table);
+        k += 8;
     }
-    count
+    tally_held(counters, table)
 }
 
 // The words from `rest` on, one by one.
@@ -95,23 +112,23 @@ fn run_rest(
     len: usize,
     rest: usize,
     table: &[u8; 256],
-) -> u32
+) -> u64
     requires left { ⌜ rest ≤ len ⌝ }
     requires runs { ⌜ RunsIn (now t1) (now e1) (now t2) (now e2) i x len ⌝ }
     requires table { ⌜ CountsBits (now table) ⌝ }
-    ensures { λ r. ⌜ Adds (runDiffer (now (t1 .entry)) (now (e1 .entry)) (now (t2 .entry)) (now (e2 .entry)) i x) rest len r ⌝ }
+    ensures { λ r. ⌜ Adds (runTally (now (t1 .entry)) (now (e1 .entry)) (now (t2 .entry)) (now (e2 .entry)) i x) rest len r ⌝ }
 {
-    let mut count: u32 = 0;
+    let mut both: u64 = 0;
     let mut k = rest;
     while k < len {
-        count += word_count(run_word(t1, e1, t2, e2, i, x, len, k), table);
+        both += word_tally(run_word(t1, e1, t2, e2, i, x, len, k), table);
         k += 1;
     }
-    count
+    both
 }
 
 // The first frame's run of `len` words from i on against the second's from x on.
-pub fn run_difference(
+pub fn run_tally(
     t1: &[u64],
     e1: &[u64],
     t2: &[u64],
@@ -120,12 +137,12 @@ pub fn run_difference(
     x: usize,
     len: usize,
     table: &[u8; 256],
-) -> u32
+) -> u64
     requires runs { ⌜ RunsIn (now t1) (now e1) (now t2) (now e2) i x len ⌝ }
     requires table { ⌜ CountsBits (now table) ⌝ }
-    ensures { λ r. ⌜ r ≡ sum (len * wordBits) (runDiffer (now (t1 .entry)) (now (e1 .entry)) (now (t2 .entry)) (now (e2 .entry)) i x) ⌝ }
+    ensures { λ r. ⌜ r ≡ sum (len * wordBits) (runTally (now (t1 .entry)) (now (e1 .entry)) (now (t2 .entry)) (now (e2 .entry)) i x) ⌝ }
 {
-    let rest = len - len % 7;
-    run_blocks(t1, e1, t2, e2, i, x, len, rest, table)
+    let rest = len - len % 8;
+    run_eights(t1, e1, t2, e2, i, x, len, rest, table)
         + run_rest(t1, e1, t2, e2, i, x, len, rest, table)
 }

@@ -55,11 +55,11 @@ shared-slice-read-joined-word-2 c = omega (arith, place (c .before .before .befo
 joined-word-requires : tie.Need-joined-word-requires
 joined-word-requires c κs = search needs
 
-mul-result : tie.Need-mul-result
-mul-result c = search needs
+mul-differing : tie.Need-mul-differing
+mul-differing c = search needs
 
-shared-slice-read-result : tie.Need-shared-slice-read-result
-shared-slice-read-result c = search needs
+shared-slice-read-differing : tie.Need-shared-slice-read-differing
+shared-slice-read-differing c = search needs
 
 mul-joined-word-3 : tie.Need-mul-joined-word-3
 mul-joined-word-3 c = search needs
@@ -104,8 +104,8 @@ differing-word-spec =
     mul-joined-word-2
     shared-slice-read-joined-word-2
     joined-word-requires
-    mul-result
-    shared-slice-read-result
+    mul-differing
+    shared-slice-read-differing
     mul-joined-word-3
     shared-slice-read-joined-word-3
     sub-joined-word-2

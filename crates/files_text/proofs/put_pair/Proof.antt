@@ -12,7 +12,7 @@ use Rattle.files_text.proofs.put_pair.Statement.{statement}
 use Rattle.files_text.proofs.put_pair.Tie as tie
 
 abbrev start : tie.After-pair-ward → tie.Start
-start c = c .before .before .before .before .before .before
+start c = c .before .before .before .before .before .before .before
 
 -- the lengths of the lent arrays
 grey-length : (c : tie.After-pair-ward) → length (start c .args .grey .now) ≡ 65536
@@ -32,18 +32,21 @@ answered : (c : tie.After-pair-ward) → expected (start c) ≡ c .pair-ward .re
 answered c = sym (rw (grey-length c, words-length c) at (c .pair-ward .ensures .answered))
 
 -- the answer of an accepted pair
-moved : (c : tie.After-answer2) → expected (start (c .before .before .before)) ≡ Paired.Moved (c .answer2 .given .0 .0)
-moved c = answered (c .before .before .before) ∙ c .answer2 .given .1
+moved : (c : tie.After-answer2) → expected (start (c .before .before .before .before)) ≡ Paired.Moved (c .answer2 .given .0 .0)
+moved c = answered (c .before .before .before .before) ∙ c .answer2 .given .1
 
 -- a refused pair leaves its work memory
 memory : (c : tie.After-pair-ward)
     → let a = start c .args in
     pairAligns (a .size) (a .s) (a .tolerance) (a .percentile) (a .first .now) (a .second .now) ≡ false
-    → (c .pair-ward .last .1 .1 .1 .1 .1 .1 .1 .1 .0 ≡ a .grey .now) × (c .pair-ward .last .1 .1 .1 .1 .1 .1 .1 .1 .1 .0 ≡ a .words .now)
+    → (c .pair-ward .last .1 .1 .1 .1 .1 .1 .1 .1 .1 .0 ≡ a .grey .now) × (c .pair-ward .last .1 .1 .1 .1 .1 .1 .1 .1 .1 .1 .0 ≡ a .words .now)
 memory c e = rw (grey-length c, words-length c) at (c .pair-ward .ensures .memoryKept) (not-zero _ e)
 
 slice-aggregate-pair-ward : tie.Need-slice-aggregate-pair-ward
 slice-aggregate-pair-ward c = search needs
+
+slice-aggregate-pair-ward-2 : tie.Need-slice-aggregate-pair-ward-2
+slice-aggregate-pair-ward-2 c = search needs
 
 pair-ward-requires : tie.Need-pair-ward-requires
 pair-ward-requires c κs = search needs
@@ -63,13 +66,13 @@ slice-aggregate-put-aligned c = search needs
 put-aligned-requires : tie.Need-put-aligned-requires
 put-aligned-requires c κs =
     let b = c .before .before .before in
-    let a = start (b .before .before .before) .args in
+    let a = start (b .before .before .before .before) .args in
     let h = halvings (a .size) (a .s) (a .tolerance) (a .percentile) (a .first .now) (a .second .now) _ (moved b) in
     (h, (omega arith, search needs))
 
 returns : tie.Need-returns
 returns c =
-    let b = c .before .before .before .before .before .before in
+    let b = c .before .before .before .before .before .before .before in
     let a = start b .args in
     record {
       wrote =
@@ -81,7 +84,7 @@ returns c =
 returns-2 : tie.Need-returns-2
 returns-2 c =
     let b = c .before .before .before .before in
-    let p = b .before .before .before in
+    let p = b .before .before .before .before in
     let a = start p .args in
     let d = rw (grey-length p, words-length p) at (p .pair-ward .ensures .countsAre) in
     record {
@@ -96,6 +99,7 @@ put-pair-spec =
     tie.close
     (tie.spec
     slice-aggregate-pair-ward
+    slice-aggregate-pair-ward-2
     pair-ward-requires
     enum-known-answer
     put-refused-requires

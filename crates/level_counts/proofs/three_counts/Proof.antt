@@ -1,4 +1,4 @@
--- The invariant: the counts at the first j candidates of the column are written, and nothing else has changed.
+-- The invariant: the counts and compared numbers at the first j candidates of the column are written, and nothing else has changed.
 use mathlib.Core.Path.{_≡_, ap, _∙_}
 use Prim.Native.Nat.{_+_, _*_, _-_, _≤_}
 use Rattle.rules.specs.declared.Offset.{Offset}
@@ -6,7 +6,7 @@ use Rattle.rules.specs.Buffers.{RowAt}
 use Rattle.rules.proofs.FrameLaws.{row-none, row-more}
 use Rattle.rules.specs.Levels.{candidateAt}
 use Rattle.level_counts.specs.NineCounts.{columnOf}
-use Rattle.slid_counts.specs.SlidPlaces.{wordsCount}
+use Rattle.slid_counts.specs.SlidPlaces.{wordsCount, wordsCompared}
 use Rattle.level_counts.proofs.CandidateLaws.{candidate-near, column-dx}
 use native.Mathlib.Omega.{arith}
 use borrow.Author.Needs.{needs}
@@ -14,15 +14,21 @@ use Rattle.level_counts.proofs.three_counts.Statement.{statement}
 use Rattle.level_counts.proofs.three_counts.Tie as tie
 
 abbrev Inv-loop : tie.InvT-loop
-Inv-loop words w h centre i counts₀ at table j₀ counts j = (j ≤ 3) × RowAt at (columnOf (wordsCount w h words) centre i) counts₀ j counts
+Inv-loop words w h centre i counts₀ compared₀ at table j₀ counts compared j =
+    (j ≤ 3) × (RowAt at (columnOf (wordsCount w h words) centre i) counts₀ j counts × RowAt at (columnOf (wordsCompared w h words) centre i) compared₀ j compared)
 
 abbrev μ-loop : tie.MeasureT-loop
-μ-loop words w h centre i counts₀ at table j₀ counts j = 3 - j
+μ-loop words w h centre i counts₀ compared₀ at table j₀ counts compared j = 3 - j
 
 loop-holds : tie.Need-loop-holds Inv-loop μ-loop
 loop-holds c =
-    let a = c .before .before .args in
-    (search needs, row-none (a .at) (columnOf (wordsCount (a .w) (a .h) (a .words .now)) (a .centre) (a .i)) (a .counts .now))
+    let a = c .before .before .before .args in (
+      search needs,
+      (
+        row-none (a .at) (columnOf (wordsCount (a .w) (a .h) (a .words .now)) (a .centre) (a .i)) (a .counts .now),
+        row-none (a .at) (columnOf (wordsCompared (a .w) (a .h) (a .words .now)) (a .centre) (a .i)) (a .compared .now),
+      ),
+    )
 
 mul-candidate : tie.Need-mul-candidate Inv-loop μ-loop
 mul-candidate c = search needs
@@ -33,9 +39,9 @@ add-candidate c = search needs
 candidate-requires : tie.Need-candidate-requires Inv-loop μ-loop
 candidate-requires c κs = search needs
 
-count-slid-requires : tie.Need-count-slid-requires Inv-loop μ-loop
-count-slid-requires c κs =
-    let s = c .before .before .before .before .before in
+tally-slid-requires : tie.Need-tally-slid-requires Inv-loop μ-loop
+tally-slid-requires c κs =
+    let s = c .before .before .before .before .before .before in
     let p = s .pre in
     let a = s .args in
     let j = c .before .before .loop .j in
@@ -46,12 +52,20 @@ count-slid-requires c κs =
 
 loop-again : tie.Need-loop-again Inv-loop μ-loop
 loop-again c =
-    let a = c .before .before .before .before .before .before .args in
+    let s = c .before .before .before .before .before .before .before in
+    let a = s .args in
     let l = c .before .before .before .loop in
-    let m = c .before .candidate in (
+    let m = c .before .candidate in
+    let t = c .tally-slid in
+    let three = s .pre .1 .1 .1 .1 .1 .0 in
+    let less = c .before .before .loop-test .taken in (
       search needs,
-      row-more (a .at) (columnOf (wordsCount (a .w) (a .h) (a .words .now)) (a .centre) (a .i)) (a .counts .now) (l .j) (l .counts) (c .count-slid .result) (omega arith) (l .inv .1)
-          (c .count-slid .ensures ∙ ap (wordsCount (a .w) (a .h) (a .words .now)) (m .ensures)),
+      (
+        row-more (a .at) (columnOf (wordsCount (a .w) (a .h) (a .words .now)) (a .centre) (a .i)) (a .counts .now) (l .j) (l .counts) (t .result .count)
+            (omega (arith, three .0, less)) (l .inv .1 .0) (t .ensures .0 ∙ ap (wordsCount (a .w) (a .h) (a .words .now)) (m .ensures)),
+        row-more (a .at) (columnOf (wordsCompared (a .w) (a .h) (a .words .now)) (a .centre) (a .i)) (a .compared .now) (l .j) (l .compared) (t .result .compared) (omega (arith, three .1, less))
+            (l .inv .1 .1) (t .ensures .1 ∙ ap (wordsCompared (a .w) (a .h) (a .words .now)) (m .ensures)),
+      ),
     )
 
 add-counts : tie.Need-add-counts Inv-loop μ-loop
@@ -63,6 +77,15 @@ mul-counts c = search needs
 slice-write-counts : tie.Need-slice-write-counts Inv-loop μ-loop
 slice-write-counts c = search needs
 
+add-compared : tie.Need-add-compared Inv-loop μ-loop
+add-compared c = search needs
+
+mul-compared : tie.Need-mul-compared Inv-loop μ-loop
+mul-compared c = search needs
+
+slice-write-compared : tie.Need-slice-write-compared Inv-loop μ-loop
+slice-write-compared c = search needs
+
 add-j : tie.Need-add-j Inv-loop μ-loop
 add-j c = search needs
 
@@ -71,6 +94,9 @@ loop-less c = search needs
 
 same-length : tie.Need-same-length Inv-loop μ-loop
 same-length c = search needs
+
+same-length-2 : tie.Need-same-length-2 Inv-loop μ-loop
+same-length-2 c = search needs
 
 returns : tie.Need-returns Inv-loop μ-loop
 returns c = let l = c .before .loop in let e : l .j ≡ 3 = omega arith in rw e at (l .inv .1)
@@ -85,12 +111,16 @@ three-counts-spec =
     mul-candidate
     add-candidate
     candidate-requires
-    count-slid-requires
+    tally-slid-requires
     add-counts
     mul-counts
     slice-write-counts
+    add-compared
+    mul-compared
+    slice-write-compared
     add-j
     loop-less
     loop-again
     same-length
+    same-length-2
     returns)

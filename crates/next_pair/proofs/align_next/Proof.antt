@@ -42,7 +42,7 @@ part-convert-end c = search needs
 
 convert-requires : tie.Need-convert-requires
 convert-requires c κs =
-    let s = c .before .before .before .before .before .before .before .before in
+    let s = c .before .before .before .before .before .before .before .before .before in
     let a = s .args in
     let o = s .pre .0 in
     let area = a .setup .w * a .setup .h in
@@ -65,18 +65,17 @@ mul-at-2 c = search needs
 
 align-frames-requires : tie.Need-align-frames-requires
 align-frames-requires c κs =
-    let s = c .before .before .before .before .before .before .before .before .before .before .before .before .before .before in
+    let s = c .before .before .before .before .before .before .before .before .before .before .before .before .before .before .before .before in
     let a = s .args in
     let o = s .pre .0 in
-    let one = c .before .before .before .before .before .before .before .before .before .place in
-    let two = c .before .before .before .before .before .before .before .before .place2 in
-    let f = frames-at (a .setup) (a .k) (length (a .rasters .now)) (length (a .pairs .now)) (length (a .counts .now)) (length (a .grey .now)) (length (a .words .now)) _ _
+    let one = c .before .before .before .before .before .before .before .before .before .before .place in
+    let two = c .before .before .before .before .before .before .before .before .before .place2 in
+    let f = frames-at (a .setup) (a .k) (length (a .rasters .now)) (length (a .pairs .now)) (length (a .counts .now)) (length (a .compared .now)) (length (a .grey .now)) (length (a .words .now)) _ _
     (one .result) (two .result) o (one .ensures) (two .ensures) in
-    (rw (c .before .before .before .before .before .convert .ensures .len) f, (o .bitmaps, (let p = o .places in omega arith, (s .pre .1 .1 .0, s .pre .1 .1 .1))))
+    (rw (c .before .before .before .before .before .before .convert .ensures .len) f, (o .bitmaps, ((let p = o .countPlaces in omega arith, let p = o .comparedPlaces in omega arith), (s .pre .1 .1 .0, s .pre .1 .1 .1))))
 
 put-offset-requires : tie.Need-put-offset-requires
-put-offset-requires c κs = c .before .before .before .before .before .before .before .before .before .before .before .before .before .before .before .before .before .before
-    .before .before .before .before .pre .0 .offset
+put-offset-requires c κs = c .before .before .before .before .before .before .before .before .before .before .before .before .before .before .before .before .before .before .before .before .before .before .before .before .before .before .pre .0 .offset
 
 same-length : tie.Need-same-length
 same-length c = search needs
@@ -90,19 +89,22 @@ same-length-3 c = search needs
 same-length-4 : tie.Need-same-length-4
 same-length-4 c = search needs
 
+same-length-5 : tie.Need-same-length-5
+same-length-5 c = search needs
+
 returns : tie.Need-returns
 returns c =
-    let s = c .before .before .before .before .before .before .before .before .before .before .before .before .before .before .before .before .before .before .before .before
-    .before .before .before .before in
+    let s = c .before .before .before .before .before .before .before .before .before .before .before .before .before .before .before .before .before .before .before .before .before .before .before .before .before .before .before .before in
     let a = s .args in
-    let one = c .before .before .before .before .before .before .before .before .before .before .before .before .before .before .before .before .before .before .before .place in
-    let two = c .before .before .before .before .before .before .before .before .before .before .before .before .before .before .before .before .before .before .place2 in
-    let new = c .before .before .before .before .before .before .before .before .before .before .before .before .before .before .before .convert in
-    let aligns = c .before .before .before .before .before .before .before .before .before .align-frames in
+    let one = c .before .before .before .before .before .before .before .before .before .before .before .before .before .before .before .before .before .before .before .before .before .before .place in
+    let two = c .before .before .before .before .before .before .before .before .before .before .before .before .before .before .before .before .before .before .before .before .before .place2 in
+    let new = c .before .before .before .before .before .before .before .before .before .before .before .before .before .before .before .before .before .before .convert in
+    let aligns = c .before .before .before .before .before .before .before .before .before .before .before .align-frames in
     let from = (a .k + 1) * (3 * (a .setup .w * a .setup .h)) in
     ran (arranged (a .order .now)) (a .setup) (a .k) (one .result) (two .result) (a .k * (9 * (a .setup .s + 1)))
     (a .rasters .now) (take (length (a .rasters .now) - from) (drop from (a .rasters .now)))
-    (a .grey .now) (new .last .1 .1 .0) (aligns .last .0) (a .counts .now) (aligns .last .1 .1 .1 .1 .1 .0) (a .pairs .now) _ (aligns .result)
+    (a .grey .now) (new .last .1 .1 .0) (aligns .last .0) (a .counts .now) (aligns .last .1 .1 .1 .1 .1 .0)
+    (a .compared .now) (aligns .last .1 .1 .1 .1 .1 .1 .0) (a .pairs .now) _ (aligns .result)
     (one .ensures) (two .ensures) refl (part-to-end (a .rasters .now) from) (s .pre .1 .0) (new .ensures) (aligns .ensures) (c .before .put-offset .ensures)
 
 pub align-next-spec : {M : Type 1} → statement M
@@ -130,4 +132,5 @@ align-next-spec =
     same-length-2
     same-length-3
     same-length-4
+    same-length-5
     returns)

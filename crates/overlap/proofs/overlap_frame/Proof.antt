@@ -1,4 +1,4 @@
--- The rows that have a partner are one run of words; if none has, nothing differs.
+-- The rows that have a partner are one run of words; if none has, nothing is compared.
 use mathlib.Core.Path.{_≡_, ap, _∙_}
 use Prim.Native.Nat.{ℕ, _+_, _*_, _-_, _≤_, max}
 use native.Mathlib.Omega.{arith}
@@ -73,17 +73,17 @@ add-rows c = search needs
 sub-rows : tie.Need-sub-rows
 sub-rows c = search needs
 
-mul-run-difference : tie.Need-mul-run-difference
-mul-run-difference c = omega (arith, words c)
+mul-run-tally : tie.Need-mul-run-tally
+mul-run-tally c = omega (arith, words c)
 
-mul-run-difference-2 : tie.Need-mul-run-difference-2
-mul-run-difference-2 c = omega (arith, words c)
+mul-run-tally-2 : tie.Need-mul-run-tally-2
+mul-run-tally-2 c = omega (arith, words c)
 
-mul-run-difference-3 : tie.Need-mul-run-difference-3
-mul-run-difference-3 c = omega (arith, words c)
+mul-run-tally-3 : tie.Need-mul-run-tally-3
+mul-run-tally-3 c = omega (arith, words c)
 
-run-difference-requires : tie.Need-run-difference-requires
-run-difference-requires c κs = let s = start (c .before .before) in (omega (arith, words c, s .pre .1 .1 .0), s .pre .1 .1 .1 .1)
+run-tally-requires : tie.Need-run-tally-requires
+run-tally-requires c κs = let s = start (c .before .before) in (omega (arith, words c, s .pre .1 .1 .0), s .pre .1 .1 .1 .1)
 
 returns-2 : tie.Need-returns-2
 returns-2 c =
@@ -92,7 +92,7 @@ returns-2 c =
     let a = s .args in
     let n = c .before .row-words in
     overlap-whole (a .w) (a .h) (a .dy) (a .t1 .now) (a .e1 .now) (a .t2 .now) (a .e2 .now) (up u) (top u) (from u) (s .fits .dy) (up-is u) (top-is u) (from-is u)
-    (s .pre .1 .1 .1 .0) (c .before .before .if1 .left) (n .result) (c .run-difference .result) (n .ensures) (c .run-difference .ensures)
+    (s .pre .1 .1 .1 .0) (c .before .before .if1 .left) (n .result) (c .run-tally .result) (n .ensures) (c .run-tally .ensures)
 
 pub overlap-frame-spec : {M : Type 1} → statement M
 overlap-frame-spec =
@@ -107,8 +107,8 @@ overlap-frame-spec =
     row-words-requires
     add-rows
     sub-rows
-    mul-run-difference
-    mul-run-difference-2
-    mul-run-difference-3
-    run-difference-requires
+    mul-run-tally
+    mul-run-tally-2
+    mul-run-tally-3
+    run-tally-requires
     returns-2)

@@ -21,12 +21,15 @@ same-length-2 c = search needs
 same-length-3 : tie.Need-same-length-3
 same-length-3 c = search needs
 
+same-length-4 : tie.Need-same-length-4
+same-length-4 c = search needs
+
 returns : tie.Need-returns
 returns c =
-    let r = c .before .before .before .before .before .before in
-    rw (r .before .before .before .before .before .before .places .ensures .0) at (r .pair-in-order .ensures)
+    let r = c .before .before .before .before .before .before .before .before in
+    rw (r .before .before .before .before .before .before .before .places .ensures .0) at (r .pair-in-order .ensures)
 
 pub pair-spec : {M : Type 1} → statement M
 pair-spec =
     tie.close
-    (tie.spec places-requires tolerance-refusal-requires pair-in-order-requires same-length same-length-2 same-length-3 returns)
+    (tie.spec places-requires tolerance-refusal-requires pair-in-order-requires same-length same-length-2 same-length-3 same-length-4 returns)

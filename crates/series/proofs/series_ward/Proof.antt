@@ -24,12 +24,15 @@ same-length-3 c = search needs
 same-length-4 : tie.Need-same-length-4
 same-length-4 c = search needs
 
+same-length-5 : tie.Need-same-length-5
+same-length-5 c = search needs
+
 returns : tie.Need-returns
 returns c =
-    let r = c .before .before .before .before .before .before .before in
-    rw (r .before .before .before .before .before .before .before .places .ensures .0) at (r .series-in-order .ensures)
+    let r = c .before .before .before .before .before .before .before .before .before in
+    rw (r .before .before .before .before .before .before .before .before .places .ensures .0) at (r .series-in-order .ensures)
 
 pub series-ward-spec : {M : Type 1} → statement M
 series-ward-spec =
     tie.close
-    (tie.spec places-requires tolerance-refusal-requires series-in-order-requires same-length same-length-2 same-length-3 same-length-4 returns)
+    (tie.spec places-requires tolerance-refusal-requires series-in-order-requires same-length same-length-2 same-length-3 same-length-4 same-length-5 returns)

@@ -37,15 +37,21 @@ same-length-7 c = search needs
 same-length-8 : tie.Need-same-length-8
 same-length-8 c = search needs
 
+same-length-9 : tie.Need-same-length-9
+same-length-9 c = search needs
+
+same-length-10 : tie.Need-same-length-10
+same-length-10 c = search needs
+
 -- places on the way: after each call, where the rasters are known, and at the start
-abbrev twice : tie.After-slice-known12 → tie.After-series-by2
-twice c = c .before .before .before .before .before .before .before
+abbrev twice : tie.After-slice-known16 → tie.After-series-by2
+twice c = c .before .before .before .before .before .before .before .before .before
 
 abbrev once : tie.After-series-by2 → tie.After-series-by
-once c = c .before .before .before .before .before .before .before .before .before .before .before .before
+once c = c .before .before .before .before .before .before .before .before .before .before .before .before .before .before .before
 
 abbrev rasters : tie.After-series-by → tie.After-shared-slice-known3
-rasters c = c .before .before .before .before .before .before .before .before .before .before .before
+rasters c = c .before .before .before .before .before .before .before .before .before .before .before .before .before .before
 
 abbrev begun : tie.After-shared-slice-known3 → tie.Start
 begun c = c .before .before .before
@@ -62,8 +68,9 @@ returns c =
         demanded (orderOf (a .order)) (order-arranged (a .order)) (toleranceSettings (a .w) (a .h) (a .s) (a .tolerance) (a .n) (a .r) (a .percentiles .now)) (a .rasters1 .now) (a .rasters2 .now)
             (a .offsets1 .now) (a .offsets2 .now) (one .last .1 .1 .1 .1 .1 .1 .1 .1 .1 .0) (two .last .1 .1 .1 .1 .1 .1 .1 .1 .1 .0) (a .counts1 .now) (a .counts2 .now)
             (one .last .1 .1 .1 .1 .1 .1 .1 .1 .1 .1 .0) (two .last .1 .1 .1 .1 .1 .1 .1 .1 .1 .1 .0)
-            (a .grey1 .now) (one .last .1 .1 .1 .1 .1 .1 .1 .1 .1 .1 .1 .0) (a .grey2 .now) (two .last .1 .1 .1 .1 .1 .1 .1 .1 .1 .1 .1 .0)
-            (a .words1 .now) (one .last .1 .1 .1 .1 .1 .1 .1 .1 .1 .1 .1 .1 .0) (a .words2 .now) (two .last .1 .1 .1 .1 .1 .1 .1 .1 .1 .1 .1 .1 .0)
+            (a .compared1 .now) (a .compared2 .now) (one .last .1 .1 .1 .1 .1 .1 .1 .1 .1 .1 .1 .0) (two .last .1 .1 .1 .1 .1 .1 .1 .1 .1 .1 .1 .0)
+            (a .grey1 .now) (one .last .1 .1 .1 .1 .1 .1 .1 .1 .1 .1 .1 .1 .0) (a .grey2 .now) (two .last .1 .1 .1 .1 .1 .1 .1 .1 .1 .1 .1 .1 .0)
+            (a .words1 .now) (one .last .1 .1 .1 .1 .1 .1 .1 .1 .1 .1 .1 .1 .1 .0) (a .words2 .now) (two .last .1 .1 .1 .1 .1 .1 .1 .1 .1 .1 .1 .1 .1 .0)
             (one .result) (two .result)
             (λ i. let l = known .before .shared-slice-known2 .given i in omega arith)
             (λ i. let l = known .shared-slice-known3 .given i in omega arith)
@@ -85,4 +92,6 @@ align-twice-spec =
     same-length-6
     same-length-7
     same-length-8
+    same-length-9
+    same-length-10
     returns)

@@ -27,14 +27,14 @@ same-length-3 c = search needs
 same-length-4 : tie.Need-same-length-4
 same-length-4 c = search needs
 
-returns : tie.Need-returns
-returns c =
-    let r = c .before .before .before .before .before .before .before in
-    let e = r .before .before .before .before .before .enum-told .given .1 in
-    rw e (r .series .ensures)
-
 same-length-5 : tie.Need-same-length-5
 same-length-5 c = search needs
+
+returns : tie.Need-returns
+returns c =
+    let r = c .before .before .before .before .before .before .before .before .before in
+    let e = r .before .before .before .before .before .before .enum-told .given .1 in
+    rw e (r .series .ensures)
 
 same-length-6 : tie.Need-same-length-6
 same-length-6 c = search needs
@@ -45,10 +45,16 @@ same-length-7 c = search needs
 same-length-8 : tie.Need-same-length-8
 same-length-8 c = search needs
 
+same-length-9 : tie.Need-same-length-9
+same-length-9 c = search needs
+
+same-length-10 : tie.Need-same-length-10
+same-length-10 c = search needs
+
 returns-2 : tie.Need-returns-2
 returns-2 c =
-    let r = c .before .before .before .before .before .before .before in
-    let e = r .before .before .before .before .before .enum-told2 .given .1 in
+    let r = c .before .before .before .before .before .before .before .before .before in
+    let e = r .before .before .before .before .before .before .enum-told2 .given .1 in
     rw e (r .series-ward .ensures)
 
 pub series-by-spec : {M : Type 1} → statement M
@@ -63,9 +69,11 @@ series-by-spec =
     same-length-2
     same-length-3
     same-length-4
-    returns
     same-length-5
+    returns
     same-length-6
     same-length-7
     same-length-8
+    same-length-9
+    same-length-10
     returns-2)

@@ -7,7 +7,7 @@ use Rattle.rules.specs.Bitmaps.{bitAt}
 use Rattle.rules.specs.Planes.{total}
 use Rattle.rules.specs.Refusals.{totalRefusal}
 use Rattle.rules.proofs.RefusalLaws.{total-ok}
-use Rattle.popcount.proofs.CountAnswerLaws.{refused, accepted}
+use Rattle.total.proofs.CountAnswerLaws.{refused, accepted}
 use Rattle.total.proofs.total.Statement.{statement}
 use Rattle.total.proofs.total.Tie as tie
 

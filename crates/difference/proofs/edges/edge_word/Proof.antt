@@ -1,4 +1,4 @@
--- The masked words are the rows' pixels; without a kept pixel nothing differs.
+-- The masked words are the rows' pixels; without a kept pixel nothing is added.
 use Prim.Native.Nat.{_+_, _*_, _<_}
 use native.Mathlib.Omega.{arith}
 use lib.Bits.{bitAnd}
@@ -10,18 +10,6 @@ use Rattle.differing.proofs.DifferLaws.{none-adds, differ-adds}
 use Rattle.difference.proofs.edges.edge_word.Statement.{statement}
 use Rattle.difference.proofs.edges.edge_word.Tie as tie
 
-near : (c : tie.Start) → (c .args .k < 4294967296) × (c .args .k + 33554432 < 4294967296)
-near c = let n = row-words-le (c .args .m .w) (c .pre .0 .width) in (omega arith, omega arith)
-
-add-at : tie.Need-add-at
-add-at c = search needs
-
-row-word-requires : tie.Need-row-word-requires
-row-word-requires c κs = let s = c .before .before .before .before in (s .pre .1 .1 .0 .exclusion1, near s .0)
-
-moved-word-requires : tie.Need-moved-word-requires
-moved-word-requires c κs = let s = c .before .before .before .before .before in (s .pre .1 .1 .0 .exclusion2, (near s .1, s .pre .0 .bits))
-
 returns : tie.Need-returns
 returns c =
     let a = c .before .before .before .before .before .before .before .args in
@@ -32,22 +20,6 @@ returns c =
     none-adds (a .t1 .now) (a .e1 .now) (a .t2 .now) (a .e2 .now) (a .base) (a .from) (a .m .w) d (a .k) (bitAnd (r .result) (v .result))
     (kept-word (a .e1 .now) (a .e2 .now) (a .base) (a .from) (a .m .w) d (a .k) (r .result) (v .result) (r .ensures) (λ i l m. e i l))
     (c .if1 .taken)
-
-add-word-count : tie.Need-add-word-count
-add-word-count c = search needs
-
-mul-word-count : tie.Need-mul-word-count
-mul-word-count c = search needs
-
-shared-slice-read-word-count : tie.Need-shared-slice-read-word-count
-shared-slice-read-word-count c = search needs
-
-moved-word-requires-2 : tie.Need-moved-word-requires-2
-moved-word-requires-2 c κs =
-    let s = c .before .before .before .before .before .before .before .before in (s .pre .1 .1 .0 .threshold2, (near s .1, s .pre .0 .bits))
-
-word-count-requires : tie.Need-word-count-requires
-word-count-requires c κs = search needs
 
 returns-2 : tie.Need-returns-2
 returns-2 c =
@@ -61,7 +33,36 @@ returns-2 c =
     let t = moved-word (a .t2 .now) (a .from) (a .m .w) d (a .k) (u .result) (u .ensures) in
     differ-adds (a .t1 .now) (a .e1 .now) (a .t2 .now) (a .e2 .now) (a .base) (a .from) (a .m .w) d (a .k) (bitAnd (r .result) (v .result))
     (kept-word (a .e1 .now) (a .e2 .now) (a .base) (a .from) (a .m .w) d (a .k) (r .result) (v .result) (r .ensures) (λ i l m. e i l))
-    (u .result) (c .word-count .result) (λ i l m n. t i l) (c .word-count .ensures)
+    (u .result) (c .word-tally .result) (λ i l m n. t i l) (c .word-tally .ensures)
+
+-- what the operations ask
+near : (c : tie.Start) → (c .args .k < 4294967296) × (c .args .k + 33554432 < 4294967296)
+near c = let n = row-words-le (c .args .m .w) (c .pre .0 .width) in (omega arith, omega arith)
+
+add-at : tie.Need-add-at
+add-at c = search needs
+
+row-word-requires : tie.Need-row-word-requires
+row-word-requires c κs = let s = c .before .before .before .before in (s .pre .1 .1 .0 .exclusion1, near s .0)
+
+moved-word-requires : tie.Need-moved-word-requires
+moved-word-requires c κs = let s = c .before .before .before .before .before in (s .pre .1 .1 .0 .exclusion2, (near s .1, s .pre .0 .bits))
+
+add-differing : tie.Need-add-differing
+add-differing c = search needs
+
+mul-differing : tie.Need-mul-differing
+mul-differing c = search needs
+
+shared-slice-read-differing : tie.Need-shared-slice-read-differing
+shared-slice-read-differing c = search needs
+
+moved-word-requires-2 : tie.Need-moved-word-requires-2
+moved-word-requires-2 c κs =
+    let s = c .before .before .before .before .before .before .before .before in (s .pre .1 .1 .0 .threshold2, (near s .1, s .pre .0 .bits))
+
+word-tally-requires : tie.Need-word-tally-requires
+word-tally-requires c κs = search needs
 
 pub edge-word-spec : {M : Type 1} → statement M
 edge-word-spec =
@@ -71,9 +72,9 @@ edge-word-spec =
     row-word-requires
     moved-word-requires
     returns
-    add-word-count
-    mul-word-count
-    shared-slice-read-word-count
+    add-differing
+    mul-differing
+    shared-slice-read-differing
     moved-word-requires-2
-    word-count-requires
+    word-tally-requires
     returns-2)

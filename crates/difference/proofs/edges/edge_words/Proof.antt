@@ -1,23 +1,24 @@
--- The invariant: the count is what the words passed add to the row's sum.
+-- The invariant: the tally is what the words passed add to the row's sum.
 use mathlib.Core.Path.{_≡_}
 use Prim.Native.Nat.{ℕ, _+_, _-_, _≤_}
 use native.Mathlib.Omega.{arith}
 use borrow.Author.Needs.{needs}
 use Rattle.popcount.specs.RowCounts.{Adds}
-use Rattle.differing.specs.RowDifferences.{movedDiffer}
-use Rattle.popcount.proofs.RowLaws.{adds-none, adds-more, adds-next-le, row-words-le}
-use Rattle.differing.proofs.DifferLaws.{movedDiffer-lt}
+use Rattle.differing.specs.RowDifferences.{movedTally}
+use Rattle.popcount.proofs.RowLaws.{adds-none, adds-more, row-words-le}
+use Rattle.tallies.proofs.TallyLaws.{tally-next-le}
+use Rattle.differing.proofs.DifferLaws.{movedTally-le}
 use Rattle.difference.proofs.edges.edge_words.Statement.{statement}
 use Rattle.difference.proofs.edges.edge_words.Tie as tie
 
 abbrev Inv-loop : tie.InvT-loop
-Inv-loop t1 e1 t2 e2 base from m first end table count₀ k₀ count k = (first ≤ k) × ((k ≤ end) × Adds (movedDiffer t1 e1 t2 e2 base from m) first k count)
+Inv-loop t1 e1 t2 e2 base from m first end table both₀ k₀ both k = (first ≤ k) × ((k ≤ end) × Adds (movedTally t1 e1 t2 e2 base from m) first k both)
 
 abbrev μ-loop : tie.MeasureT-loop
-μ-loop t1 e1 t2 e2 base from m first end table count₀ k₀ count k = end - k
+μ-loop t1 e1 t2 e2 base from m first end table both₀ k₀ both k = end - k
 
 abbrev row : tie.Start Inv-loop μ-loop → ℕ → ℕ
-row c = let a = c .args in movedDiffer (a .t1 .now) (a .e1 .now) (a .t2 .now) (a .e2 .now) (a .base) (a .from) (a .m)
+row c = let a = c .args in movedTally (a .t1 .now) (a .e1 .now) (a .t2 .now) (a .e2 .now) (a .base) (a .from) (a .m)
 
 loop-holds : tie.Need-loop-holds Inv-loop μ-loop
 loop-holds c = let s = c .before .before .before .before in (omega arith, (s .pre .1 .0 .0, adds-none (row s) (s .args .first)))
@@ -27,8 +28,8 @@ edge-word-requires c κs =
     let s = c .before .before .before .before .before .before in
     (s .pre .0, (omega arith, (s .pre .1 .1 .0, s .pre .1 .1 .1)))
 
-add-count : tie.Need-add-count Inv-loop μ-loop
-add-count c =
+add-both : tie.Need-add-both Inv-loop μ-loop
+add-both c =
     let s = c .before .before .before .before .before .before .before in
     let a = s .args in
     let l = c .before .before .loop in
@@ -36,8 +37,8 @@ add-count c =
       arith,
       s,
       row-words-le (a .m .w) (s .pre .0 .width),
-      adds-next-le (row s) (s .args .first) (l .k) (l .k + 1) (l .count) (c .edge-word .result)
-          (movedDiffer-lt (a .t1 .now) (a .e1 .now) (a .t2 .now) (a .e2 .now) (a .base) (a .from) (a .m)) (l .inv .1 .1) (c .edge-word .ensures),
+      tally-next-le (row s) (s .args .first) (l .k) (l .k + 1) (l .both) (c .edge-word .result)
+          (movedTally-le (a .t1 .now) (a .e1 .now) (a .t2 .now) (a .e2 .now) (a .base) (a .from) (a .m)) (l .inv .1 .1) (c .edge-word .ensures),
     )
 
 add-k : tie.Need-add-k Inv-loop μ-loop
@@ -50,7 +51,7 @@ loop-again : tie.Need-loop-again Inv-loop μ-loop
 loop-again c =
     let s = c .before .before .before .before .before .before .before in
     let l = c .before .before .loop in
-    (omega arith, (omega arith, adds-more (row s) (s .args .first) (l .k) (l .k + 1) (l .count) (c .edge-word .result) (l .inv .1 .1) (c .edge-word .ensures)))
+    (omega arith, (omega arith, adds-more (row s) (s .args .first) (l .k) (l .k + 1) (l .both) (c .edge-word .result) (l .inv .1 .1) (c .edge-word .ensures)))
 
 returns : tie.Need-returns Inv-loop μ-loop
 returns c =
@@ -66,7 +67,7 @@ edge-words-spec =
     μ-loop
     loop-holds
     edge-word-requires
-    add-count
+    add-both
     add-k
     loop-less
     loop-again

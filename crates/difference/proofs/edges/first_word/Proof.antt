@@ -29,23 +29,23 @@ shared-slice-read-kept-2 c = omega (arith, full-le (c .before .before .before .b
 shl-kept : tie.Need-shl-kept
 shl-kept c = search needs
 
-mul-word-count : tie.Need-mul-word-count
-mul-word-count c = search needs
+mul-differing : tie.Need-mul-differing
+mul-differing c = search needs
 
-shared-slice-read-word-count : tie.Need-shared-slice-read-word-count
-shared-slice-read-word-count c = omega (arith, full-le (c .before .before .before .before .before .before .before .args .m .w))
+shared-slice-read-differing : tie.Need-shared-slice-read-differing
+shared-slice-read-differing c = omega (arith, full-le (c .before .before .before .before .before .before .before .args .m .w))
 
-mul-word-count-2 : tie.Need-mul-word-count-2
-mul-word-count-2 c = search needs
+mul-differing-2 : tie.Need-mul-differing-2
+mul-differing-2 c = search needs
 
-shared-slice-read-word-count-2 : tie.Need-shared-slice-read-word-count-2
-shared-slice-read-word-count-2 c = omega (arith, full-le (c .before .before .before .before .before .before .before .before .args .m .w))
+shared-slice-read-differing-2 : tie.Need-shared-slice-read-differing-2
+shared-slice-read-differing-2 c = omega (arith, full-le (c .before .before .before .before .before .before .before .before .args .m .w))
 
-shl-word-count : tie.Need-shl-word-count
-shl-word-count c = search needs
+shl-differing : tie.Need-shl-differing
+shl-differing c = search needs
 
-word-count-requires : tie.Need-word-count-requires
-word-count-requires c κs = search needs
+word-tally-requires : tie.Need-word-tally-requires
+word-tally-requires c κs = search needs
 
 returns : tie.Need-returns
 returns c =
@@ -59,7 +59,7 @@ returns c =
     let t = first-moved (a .t2 .now) (a .from) (a .m .w) (a .m .q) (a .m .r) (a .k) (s .pre .1 .0 .0) (omega (arith, s .pre .1 .0 .1)) in
     differ-adds (a .t1 .now) (a .e1 .now) (a .t2 .now) (a .e2 .now) (a .base) (a .from) (a .m .w) d (a .k) (bitAnd k1 k2)
     (kept-word (a .e1 .now) (a .e2 .now) (a .base) (a .from) (a .m .w) d (a .k) k1 k2 (row-whole (a .e1 .now) (a .base) (a .m .w) (a .k) (omega (arith, s .pre .1 .0 .1))) (λ i l m. e i l))
-    u2 (c .word-count .result) (λ i l m n. t i l) (c .word-count .ensures)
+    u2 (c .word-tally .result) (λ i l m n. t i l) (c .word-tally .ensures)
 
 pub first-word-spec : {M : Type 1} → statement M
 first-word-spec =
@@ -71,10 +71,10 @@ first-word-spec =
     mul-kept-2
     shared-slice-read-kept-2
     shl-kept
-    mul-word-count
-    shared-slice-read-word-count
-    mul-word-count-2
-    shared-slice-read-word-count-2
-    shl-word-count
-    word-count-requires
+    mul-differing
+    shared-slice-read-differing
+    mul-differing-2
+    shared-slice-read-differing-2
+    shl-differing
+    word-tally-requires
     returns)

@@ -21,11 +21,11 @@ row-word-requires c κs = let s = c .before .before .before .before .before in (
 joined-word-requires : tie.Need-joined-word-requires
 joined-word-requires c κs = search needs
 
-mul-word-count : tie.Need-mul-word-count
-mul-word-count c = search needs
+mul-differing : tie.Need-mul-differing
+mul-differing c = search needs
 
-shared-slice-read-word-count : tie.Need-shared-slice-read-word-count
-shared-slice-read-word-count c = search needs
+shared-slice-read-differing : tie.Need-shared-slice-read-differing
+shared-slice-read-differing c = search needs
 
 add-joined-word : tie.Need-add-joined-word
 add-joined-word c = search needs
@@ -39,8 +39,8 @@ shared-slice-read-joined-word c = search needs
 joined-word-requires-2 : tie.Need-joined-word-requires-2
 joined-word-requires-2 c κs = search needs
 
-word-count-requires : tie.Need-word-count-requires
-word-count-requires c κs = search needs
+word-tally-requires : tie.Need-word-tally-requires
+word-tally-requires c κs = search needs
 
 returns : tie.Need-returns
 returns c =
@@ -49,8 +49,8 @@ returns c =
     let b = c .before .before .before .before .before .row-word in
     let v = c .before .before .before .before .joined-word in
     let u = c .before .joined-word2 in
-    last-adds (a .t1 .now) (a .e1 .now) (a .t2 .now) (a .e2 .now) (a .base) (a .from) (a .m .w) (a .m .q) (a .m .r) (a .k) (v .result) (u .result) (c .word-count .result) (s .pre .0 .bits)
-    (b .result) (s .pre .1 .0 .0) (omega (arith, s .pre, row-words-all (a .m .w))) (b .ensures) (v .ensures) (u .ensures) (c .word-count .ensures)
+    last-adds (a .t1 .now) (a .e1 .now) (a .t2 .now) (a .e2 .now) (a .base) (a .from) (a .m .w) (a .m .q) (a .m .r) (a .k) (v .result) (u .result) (c .word-tally .result) (s .pre .0 .bits)
+    (b .result) (s .pre .1 .0 .0) (omega (arith, s .pre, row-words-all (a .m .w))) (b .ensures) (v .ensures) (u .ensures) (c .word-tally .ensures)
 
 pub last-word-spec : {M : Type 1} → statement M
 last-word-spec =
@@ -61,11 +61,11 @@ last-word-spec =
     shared-slice-read-kept
     row-word-requires
     joined-word-requires
-    mul-word-count
-    shared-slice-read-word-count
+    mul-differing
+    shared-slice-read-differing
     add-joined-word
     mul-joined-word
     shared-slice-read-joined-word
     joined-word-requires-2
-    word-count-requires
+    word-tally-requires
     returns)

@@ -4,7 +4,7 @@ use Prim.Native.Nat.{_+_, _*_, _≤_}
 use native.Mathlib.Omega.{arith}
 use borrow.Author.Needs.{needs}
 use borrow.Author.Tests.{eqb-true, leb-true}
-use Rattle.differing.specs.RowDifferences.{movedDiffer}
+use Rattle.differing.specs.RowDifferences.{movedTally}
 use Rattle.popcount.proofs.RowLaws.{adds-none}
 use Rattle.difference.proofs.edges.left_edge.Statement.{statement}
 use Rattle.difference.proofs.edges.left_edge.Tie as tie
@@ -13,7 +13,7 @@ returns : tie.Need-returns
 returns c =
     let a = c .before .before .before .before .before .before .args in
     let e : 0 ≡ a .m .first = omega arith in
-    rw (← e) (adds-none (movedDiffer (a .t1 .now) (a .e1 .now) (a .t2 .now) (a .e2 .now) (a .base) (a .from) (a .m)) 0)
+    rw (← e) (adds-none (movedTally (a .t1 .now) (a .e1 .now) (a .t2 .now) (a .e2 .now) (a .base) (a .from) (a .m)) 0)
 
 first-word-requires : tie.Need-first-word-requires
 first-word-requires c κs =

@@ -4,7 +4,7 @@ use Prim.Native.Nat.{_+_}
 use native.Mathlib.Omega.{arith}
 use borrow.Author.Needs.{needs}
 use borrow.Author.Tests.{eqb-true}
-use Rattle.differing.specs.RowDifferences.{movedDiffer}
+use Rattle.differing.specs.RowDifferences.{movedTally}
 use Rattle.popcount.proofs.RowLaws.{adds-none}
 use Rattle.difference.proofs.edges.right_edge.Statement.{statement}
 use Rattle.difference.proofs.edges.right_edge.Tie as tie
@@ -13,7 +13,7 @@ returns : tie.Need-returns
 returns c =
     let a = c .before .before .before .before .before .before .args in
     let e : a .m .end ≡ a .m .n = omega arith in
-    rw (← e) (adds-none (movedDiffer (a .t1 .now) (a .e1 .now) (a .t2 .now) (a .e2 .now) (a .base) (a .from) (a .m)) (a .m .end))
+    rw (← e) (adds-none (movedTally (a .t1 .now) (a .e1 .now) (a .t2 .now) (a .e2 .now) (a .base) (a .from) (a .m)) (a .m .end))
 
 sub-if2 : tie.Need-sub-if2
 sub-if2 c = search needs

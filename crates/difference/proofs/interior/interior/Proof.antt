@@ -2,9 +2,10 @@
 use Prim.Native.Nat.{ℕ}
 use native.Mathlib.Omega.{arith}
 use borrow.Author.Needs.{needs}
-use Rattle.differing.specs.RowDifferences.{movedDiffer}
-use Rattle.popcount.proofs.RowLaws.{adds-next-le, row-words-le}
-use Rattle.differing.proofs.DifferLaws.{movedDiffer-lt}
+use Rattle.differing.specs.RowDifferences.{movedTally}
+use Rattle.popcount.proofs.RowLaws.{row-words-le}
+use Rattle.tallies.proofs.TallyLaws.{tally-next-le}
+use Rattle.differing.proofs.DifferLaws.{movedTally-le}
 use Rattle.difference.proofs.interior.interior.Statement.{statement}
 use Rattle.difference.proofs.interior.interior.Tie as tie
 
@@ -19,13 +20,13 @@ add-result c =
     let s = c .before .before .before .before .before .before in
     let a = s .args in
     let b = c .before .interior-blocks in
-    let f : ℕ → ℕ = movedDiffer (a .t1 .now) (a .e1 .now) (a .t2 .now) (a .e2 .now) (a .base) (a .from) (a .m) in
+    let f : ℕ → ℕ = movedTally (a .t1 .now) (a .e1 .now) (a .t2 .now) (a .e2 .now) (a .base) (a .from) (a .m) in
     omega (
       arith,
       s .pre .0,
       row-words-le (a .m .w) (s .pre .0 .width),
-      adds-next-le f (a .m .first) (a .m .rest) (a .m .end) (b .result) (c .interior-rest .result)
-          (movedDiffer-lt (a .t1 .now) (a .e1 .now) (a .t2 .now) (a .e2 .now) (a .base) (a .from) (a .m)) (b .ensures) (c .interior-rest .ensures),
+      tally-next-le f (a .m .first) (a .m .rest) (a .m .end) (b .result) (c .interior-rest .result)
+          (movedTally-le (a .t1 .now) (a .e1 .now) (a .t2 .now) (a .e2 .now) (a .base) (a .from) (a .m)) (b .ensures) (c .interior-rest .ensures),
     )
 
 returns : tie.Need-returns

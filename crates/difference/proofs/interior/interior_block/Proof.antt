@@ -1,9 +1,10 @@
--- The seven words of differences add their bits.
+-- The seven words' bits are added.
 use Prim.Native.Nat.{ℕ, _+_, _≤_, _<_}
 use native.Mathlib.Omega.{arith}
 use Rattle.words.specs.Moves.{Moves}
-use Rattle.differing.specs.RowDifferences.{RowsIn, movedDiffer}
-use Rattle.popcount.proofs.RowLaws.{row-words-le, seven-adds}
+use Rattle.differing.specs.RowDifferences.{RowsIn, movedDiffer, movedKept}
+use Rattle.popcount.proofs.RowLaws.{row-words-le}
+use Rattle.tallies.proofs.TallyLaws.{seven-both}
 use Rattle.difference.proofs.interior.interior_block.Statement.{statement}
 use Rattle.difference.proofs.interior.interior_block.Tie as tie
 
@@ -54,14 +55,15 @@ add-differing-word-6 c = omega (arith, near (c .before .before .before .before .
 differing-word-requires-7 : tie.Need-differing-word-requires-7
 differing-word-requires-7 c κs = let s = c .before .before .before .before .before .before .before .before .before .before in ready s _ (omega arith) (omega arith)
 
-seven-word-count-requires : tie.Need-seven-word-count-requires
-seven-word-count-requires c κs = c .before .before .before .before .before .before .before .before .before .before .before .pre .1 .1 .1
+seven-word-tally-requires : tie.Need-seven-word-tally-requires
+seven-word-tally-requires c κs = c .before .before .before .before .before .before .before .before .before .before .before .pre .1 .1 .1
 
 returns : tie.Need-returns
 returns c =
     let s = c .before .before .before .before .before .before .before .before .before .before .before .before in
     let a = s .args in
     let f : ℕ → ℕ = movedDiffer (a .t1 .now) (a .e1 .now) (a .t2 .now) (a .e2 .now) (a .base) (a .from) (a .m) in
+    let g : ℕ → ℕ = movedKept (a .e1 .now) (a .e2 .now) (a .base) (a .from) (a .m) in
     let w1 = c .before .before .before .before .before .before .before .differing-word in
     let w2 = c .before .before .before .before .before .before .differing-word2 in
     let w3 = c .before .before .before .before .before .differing-word3 in
@@ -69,8 +71,8 @@ returns c =
     let w5 = c .before .before .before .differing-word5 in
     let w6 = c .before .before .differing-word6 in
     let w7 = c .before .differing-word7 in
-    seven-adds f (a .k) (w1 .result) (w2 .result) (w3 .result) (w4 .result) (w5 .result) (w6 .result) (w7 .result) (c .seven-word-count .result)
-    (w1 .ensures) (w2 .ensures) (w3 .ensures) (w4 .ensures) (w5 .ensures) (w6 .ensures) (w7 .ensures) (c .seven-word-count .ensures)
+    seven-both f g (a .k) (w1 .result) (w2 .result) (w3 .result) (w4 .result) (w5 .result) (w6 .result) (w7 .result) (c .seven-word-tally .result)
+    (w1 .ensures) (w2 .ensures) (w3 .ensures) (w4 .ensures) (w5 .ensures) (w6 .ensures) (w7 .ensures) (c .seven-word-tally .ensures)
 
 pub interior-block-spec : {M : Type 1} → statement M
 interior-block-spec =
@@ -89,5 +91,5 @@ interior-block-spec =
     differing-word-requires-6
     add-differing-word-6
     differing-word-requires-7
-    seven-word-count-requires
+    seven-word-tally-requires
     returns)

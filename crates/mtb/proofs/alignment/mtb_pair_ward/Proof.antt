@@ -21,12 +21,15 @@ same-length-2 c = search needs
 same-length-3 : tie.Need-same-length-3
 same-length-3 c = search needs
 
+same-length-4 : tie.Need-same-length-4
+same-length-4 c = search needs
+
 returns : tie.Need-returns
 returns c =
-    let call = c .before .before .before .before .before .before .before .before .before .pair-ward in
+    let call = c .before .before .before .before .before .before .before .before .before .before .before .pair-ward in
     let told = c .moved-into .ensures in
-    let left = pair-left _ _ _ _ _ _ _ _ _ _ _ _ (call .ensures) (told .0) (told .1) in
+    let left = pair-left _ _ _ _ _ _ _ _ _ _ _ _ _ _ (call .ensures) (told .0) (told .1) in
     (left .0, λ f. (ap (λ (m : Offset). m .dx) (left .1 f), ap (λ (m : Offset). m .dy) (left .1 f)))
 
 pub mtb-pair-ward-spec : {M : Type 1} → statement M
-mtb-pair-ward-spec = tie.close (tie.spec pair-ward-requires moved-into-requires same-length same-length-2 same-length-3 returns)
+mtb-pair-ward-spec = tie.close (tie.spec pair-ward-requires moved-into-requires same-length same-length-2 same-length-3 same-length-4 returns)

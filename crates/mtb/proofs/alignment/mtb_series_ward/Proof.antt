@@ -22,10 +22,13 @@ same-length-3 c = search needs
 same-length-4 : tie.Need-same-length-4
 same-length-4 c = search needs
 
+same-length-5 : tie.Need-same-length-5
+same-length-5 c = search needs
+
 returns : tie.Need-returns
 returns c =
-    let call = c .before .before .before .before .before .before .before .before .series-ward in
-    series-left _ _ _ _ _ _ _ _ _ _ _ _ (call .ensures) (c .refusal-in .ensures)
+    let call = c .before .before .before .before .before .before .before .before .before .before .series-ward in
+    series-left _ _ _ _ _ _ _ _ _ _ _ _ _ _ (call .ensures) (c .refusal-in .ensures)
 
 pub mtb-series-ward-spec : {M : Type 1} → statement M
 mtb-series-ward-spec =
@@ -37,4 +40,5 @@ mtb-series-ward-spec =
     same-length-2
     same-length-3
     same-length-4
+    same-length-5
     returns)

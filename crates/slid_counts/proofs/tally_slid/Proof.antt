@@ -1,26 +1,42 @@
--- Each part is lent as far as the words reach, which is the list from its place on; the count against the slid frame is that at the offset.
+-- Each part is lent as far as the words reach, which is the list from its place on; the numbers against the slid frame are those at the offset.
 use mathlib.Core.Path.{_≡_, _∙_}
+use Prim.Native.Nat.{_<_}
+use native.Mathlib.Nat.{mul-le-mul}
 use native.Mathlib.Omega.{arith}
+use lib.IntN.{pos}
 use lib.ListN.{length-take, length-drop}
+use Rattle.rules.specs.Differences.{difference, compared}
 use Rattle.rules.proofs.SignedLaws.{small-fits}
-use Rattle.slid_counts.specs.SlidPlaces.{wordsCount}
-use Rattle.slid_counts.proofs.SlidPartLaws.{parts-clean, parts-count}
-use Rattle.slid_counts.proofs.SlidCountLaws.{slid-count}
+use Rattle.rules.proofs.ShareLaws.{difference-le}
+use Rattle.tallies.specs.Tallies.{tally}
+use Rattle.tallies.proofs.TallyLaws.{tally-split}
+use Rattle.slid_counts.specs.SlidPlaces.{firstIn, slidIn, wordsCount, wordsCompared}
+use Rattle.slid_counts.proofs.SlidPartLaws.{parts-clean, parts-same}
+use Rattle.slid_counts.proofs.SlidCountLaws.{slid-count, slid-compared}
 use borrow.Author.Needs.{needs}
-use Rattle.slid_counts.proofs.count_slid.Statement.{statement}
-use Rattle.slid_counts.proofs.count_slid.Tie as tie
+use Rattle.slid_counts.proofs.tally_slid.Statement.{statement}
+use Rattle.slid_counts.proofs.tally_slid.Tie as tie
 
--- the count of the parts, each as it is lent
-counted : (c : tie.After-overlap-frame)
-    → let a = c .before .before .before .before .before .before .before .args in
-    c .overlap-frame .result ≡ wordsCount (a .w) (a .h) (a .words .now) (a .m)
-counted c =
-    let s = c .before .before .before .before .before .before .before in
+-- the two numbers of the parts, each as it is lent
+numbers : (c : tie.After-split)
+    → let a = c .before .before .before .before .before .before .before .before .args in
+    (c .split .result .count ≡ wordsCount (a .w) (a .h) (a .words .now) (a .m)) × (c .split .result .compared ≡ wordsCompared (a .w) (a .h) (a .words .now) (a .m))
+numbers c =
+    let s = c .before .before .before .before .before .before .before .before in
     let a = s .args in
-    let b = c .before .before .before .before .before .bitmap-words in
-    parts-count (a .w) (a .h) (b .result) (a .words .now) (b .ensures) (a .m .dy) (c .overlap-frame .result) (small-fits (a .m .dy) (let near = s .pre .1 .1 .0 .dy in omega arith))
-    (c .overlap-frame .ensures)
-    ∙ slid-count (a .w) (a .h) (a .words .now) (a .m) (s .pre .1 .1 .1 .0)
+    let b = c .before .before .before .before .before .before .bitmap-words in
+    let first = firstIn (a .w) (a .h) (a .words .now) in
+    let second = slidIn (a .w) (a .h) (a .words .now) in
+    let fits = small-fits (a .m .dy) (let near = s .pre .1 .1 .0 .dy in omega arith) in
+    let whole = c .before .overlap-frame .ensures
+    ∙ parts-same (a .w) (a .h) (b .result) (a .words .now) (b .ensures)
+    (λ dy p q. tally (difference (a .w) (a .h) (pos 0) dy p q) (compared (a .w) (a .h) (pos 0) dy p q)) (a .m .dy) fits in
+    let small : difference (a .w) (a .h) (pos 0) (a .m .dy) first second < 4294967296 =
+    omega (arith, difference-le (a .w) (a .h) (pos 0) (a .m .dy) first second, mul-le-mul (s .pre .0 .width) (s .pre .0 .height)) in
+    let two = tally-split (difference (a .w) (a .h) (pos 0) (a .m .dy) first second) (compared (a .w) (a .h) (pos 0) (a .m .dy) first second)
+    (c .before .overlap-frame .result) (c .split .result .count) (c .split .result .compared) small whole (c .split .ensures .0) (c .split .ensures .1) in
+    let slid = s .pre .1 .1 .1 .0 in
+    (two .0 ∙ slid-count (a .w) (a .h) (a .words .now) (a .m) slid, two .1 ∙ slid-compared (a .w) (a .h) (a .words .now) (a .m) slid)
 
 bitmap-words-requires : tie.Need-bitmap-words-requires
 bitmap-words-requires c κs = search needs
@@ -88,11 +104,14 @@ overlap-frame-requires c κs =
       ),
     )
 
-returns : tie.Need-returns
-returns c = counted c
+split-requires : tie.Need-split-requires
+split-requires c κs = search needs
 
-pub count-slid-spec : {M : Type 1} → statement M
-count-slid-spec =
+returns : tie.Need-returns
+returns c = numbers c
+
+pub tally-slid-spec : {M : Type 1} → statement M
+tally-slid-spec =
     tie.close
     (tie.spec
     bitmap-words-requires
@@ -111,4 +130,5 @@ count-slid-spec =
     part-overlap-frame-start-3
     part-overlap-frame-end-3
     overlap-frame-requires
+    split-requires
     returns)

@@ -1,25 +1,25 @@
--- The invariant: the count is the sum of the rows passed.
+-- The invariant: the tally is the sum of the rows passed.
 use mathlib.Core.Path.{_≡_, sym, ap, _∙_}
 use Prim.Native.Nat.{ℕ, _+_, _*_, _-_, _≤_}
 use native.Mathlib.Omega.{arith}
 use mir.Facts.{toZ-ofZ}
 use borrow.Author.Needs.{needs}
 use Rattle.rules.specs.Sums.{sum}
-use Rattle.rules.proofs.SumLaws.{sum-none}
+use Rattle.rules.proofs.SumLaws.{sum-none, sum-le}
 use Rattle.words.specs.Rows.{biasOf}
 use Rattle.words.proofs.MoveLaws.{bias-lt}
-use Rattle.differing.specs.RowDifferences.{lineDiffer}
-use Rattle.popcount.proofs.RowLaws.{rows-le, rows-more}
+use Rattle.differing.specs.RowDifferences.{lineTally}
+use Rattle.popcount.proofs.RowLaws.{rows-more}
 use Rattle.differing.proofs.DifferLaws.{line-le, frame-whole}
-use Rattle.difference.proofs.row_differences.difference_frame.Statement.{statement}
-use Rattle.difference.proofs.row_differences.difference_frame.Tie as tie
+use Rattle.difference.proofs.row_differences.tally_frame.Statement.{statement}
+use Rattle.difference.proofs.row_differences.tally_frame.Tie as tie
 
 abbrev Inv-loop : tie.InvT-loop
-Inv-loop w h dx dy t1 e1 t2 e2 table m up count₀ y₀ count y =
-    (y ≤ h) × (count ≡ sum y (lineDiffer t1 e1 t2 e2 (m .w) h (m .q * 64 + m .r) up))
+Inv-loop w h dx dy t1 e1 t2 e2 table m up both₀ y₀ both y =
+    (y ≤ h) × (both ≡ sum y (lineTally t1 e1 t2 e2 (m .w) h (m .q * 64 + m .r) up))
 
 abbrev μ-loop : tie.MeasureT-loop
-μ-loop w h dx dy t1 e1 t2 e2 table m up count₀ y₀ count y = h - y
+μ-loop w h dx dy t1 e1 t2 e2 table m up both₀ y₀ both y = h - y
 
 biased-requires : tie.Need-biased-requires Inv-loop μ-loop
 biased-requires c κs = search needs
@@ -36,25 +36,25 @@ loop-holds : tie.Need-loop-holds Inv-loop μ-loop
 loop-holds c =
     let a = c .before .before .before .before .before .before .before .args in
     let m = c .before .move-by .result in
-    (omega arith, sym (sum-none (lineDiffer (a .t1 .now) (a .e1 .now) (a .t2 .now) (a .e2 .now) (m .w) (a .h) (m .q * 64 + m .r) (c .biased2 .result))))
+    (omega arith, sym (sum-none (lineTally (a .t1 .now) (a .e1 .now) (a .t2 .now) (a .e2 .now) (m .w) (a .h) (m .q * 64 + m .r) (c .biased2 .result))))
 
-line-difference-requires : tie.Need-line-difference-requires Inv-loop μ-loop
-line-difference-requires c κs =
+line-tally-requires : tie.Need-line-tally-requires Inv-loop μ-loop
+line-tally-requires c κs =
     let s = c .before .before .before .before .before .before .before .before .before in
     let m = c .before .before .before .move-by in
     (m .ensures .1 .1, ((c .loop-test .taken, s .pre .1 .0), (rw (m .ensures .0) (s .pre .1 .1 .0), s .pre .1 .1 .1)))
 
-add-count : tie.Need-add-count Inv-loop μ-loop
-add-count c =
+add-both : tie.Need-add-both Inv-loop μ-loop
+add-both c =
     let s = c .before .before .before .before .before .before .before .before .before .before in
     let a = s .args in
     let m = c .before .before .before .before .move-by in
     let d = m .result .q * 64 + m .result .r in
     let up = c .before .before .before .biased2 .result in
     let l = c .before .before .loop in
-    let small : (y : ℕ) → lineDiffer (a .t1 .now) (a .e1 .now) (a .t2 .now) (a .e2 .now) (m .result .w) (a .h) d up y ≤ 4096 =
+    let small : (y : ℕ) → lineTally (a .t1 .now) (a .e1 .now) (a .t2 .now) (a .e2 .now) (m .result .w) (a .h) d up y ≤ 4096 * 4294967297 =
     λ y. line-le (a .t1 .now) (a .e1 .now) (a .t2 .now) (a .e2 .now) (m .result .w) (a .h) d up y (m .ensures .1 .1 .width) in
-    omega (arith, s .pre, rows-le (lineDiffer (a .t1 .now) (a .e1 .now) (a .t2 .now) (a .e2 .now) (m .result .w) (a .h) d up) (l .y) small, small (l .y))
+    omega (arith, s .pre, sum-le (l .y) (4096 * 4294967297) (lineTally (a .t1 .now) (a .e1 .now) (a .t2 .now) (a .e2 .now) (m .result .w) (a .h) d up) (λ y k. small y), small (l .y))
 
 add-y : tie.Need-add-y Inv-loop μ-loop
 add-y c = search needs
@@ -68,8 +68,8 @@ loop-again c =
     let m = c .before .before .before .before .move-by .result in
     let l = c .before .before .loop in (
       omega arith,
-      rows-more (lineDiffer (a .t1 .now) (a .e1 .now) (a .t2 .now) (a .e2 .now) (m .w) (a .h) (m .q * 64 + m .r) (c .before .before .before .biased2 .result)) (l .y) (l .count)
-          (c .line-difference .result) (l .inv .1) (c .line-difference .ensures),
+      rows-more (lineTally (a .t1 .now) (a .e1 .now) (a .t2 .now) (a .e2 .now) (m .w) (a .h) (m .q * 64 + m .r) (c .before .before .before .biased2 .result)) (l .y) (l .both)
+          (c .line-tally .result) (l .inv .1) (c .line-tally .ensures),
     )
 
 returns : tie.Need-returns Inv-loop μ-loop
@@ -81,12 +81,12 @@ returns c =
     let l = c .before .loop in
     let e : l .y ≡ a .h = omega arith in
     frame-whole (a .w) (a .h) (a .dx) (a .dy) (a .t1 .now) (a .e1 .now) (a .t2 .now) (a .e2 .now) (s .fits .dx) (s .fits .dy)
-    (m .result .w) (m .result .q * 64 + m .result .r) (u .result) (l .count) (m .ensures .0)
+    (m .result .w) (m .result .q * 64 + m .result .r) (u .result) (l .both) (m .ensures .0)
     (m .ensures .1 .0 ∙ c .before .before .before .before .biased .ensures ∙ ap biasOf (toZ-ofZ (s .fits .dx)))
     (u .ensures ∙ ap biasOf (toZ-ofZ (s .fits .dy))) (rw e at (l .inv .1))
 
-pub difference-frame-spec : {M : Type 1} → statement M
-difference-frame-spec =
+pub tally-frame-spec : {M : Type 1} → statement M
+tally-frame-spec =
     tie.close
     (tie.spec
     Inv-loop
@@ -95,8 +95,8 @@ difference-frame-spec =
     move-by-requires
     biased-requires-2
     loop-holds
-    line-difference-requires
-    add-count
+    line-tally-requires
+    add-both
     add-y
     loop-less
     loop-again

@@ -1,0 +1,2 @@
+-- Laws of the difference call's answer.
+pub mod TallyAnswerLaws

@@ -1,0 +1,2 @@
+-- Laws of two counts in one number.
+pub mod TallyLaws
