@@ -49,6 +49,9 @@ strip 0 strip0.ppm
 strip 11 strip1.ppm
 strip 22 strip2.ppm
 strip 33 strip3.ppm
+# A header that capture software signed, and one cut off in a comment.
+(printf 'P6\n# gain 120\n160 120\n255\n' && tail -c +16 second.ppm) >signed.ppm
+printf 'P6\n160 120\n# gain 120' >unfinished.ppm
 printf 'P5\n1 1\n255\n0' >grey.ppm
 printf 'P6\n1 1\n65535\n000000' >deep.ppm
 head -c 1000 first.ppm >cut.ppm
@@ -67,6 +70,11 @@ expect 0 '160 by 120 pixels, s = 4, T = 2, P = 83, r = 1
     0     0    90.3 %  second.ppm
    -9     9    68.6 %  third.ppm
 common area: 151 by 111, columns 0 to 150, rows 9 to 119' align -s 4 -t 2 -p 83 -r 1 first.ppm second.ppm third.ppm
+expect 0 '160 by 120 pixels, s = 3, T = 0, P = 50, r = 0
+   dx    dy  compared
+    0     0         -  first.ppm
+    5    -3    92.8 %  signed.ppm
+common area: 155 by 117, columns 5 to 159, rows 0 to 116' align first.ppm signed.ppm
 expect 0 '16 by 16 pixels, s = 1, T = 0, P = 50, r = 0
    dx    dy  compared
     0     0         -  flat.ppm
@@ -98,6 +106,7 @@ header='refused (1): no P6 header, or its largest value is not 255'
 length='refused (9): the bytes are not as many as the size asks for'
 expect 1 "empty.ppm: $header" align empty.ppm
 expect 1 "grey.ppm: $header" align grey.ppm
+expect 1 "unfinished.ppm: $header" align first.ppm unfinished.ppm
 expect 1 "deep.ppm: $header" align first.ppm deep.ppm
 expect 1 'wide.ppm: refused (2): a width or height is 0 or above 4096' align wide.ppm
 expect 1 "cut.ppm: $length" align cut.ppm

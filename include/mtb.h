@@ -232,7 +232,9 @@ size_t mtb_words_needed(uint32_t w, uint32_t h, uint32_t s);
 /*
  * The width and height of the frame that a file holds. A file is "P6", whitespace, width, whitespace,
  * height, whitespace, 255, one byte of whitespace, raster, and nothing more. Whitespace is one or more
- * of the bytes 9, 10, 13 and 32; a number has one to nine digits. Refusals: 1, 2, 9.
+ * of the bytes 9, 10, 13 and 32; a number has one to nine digits. Before a number a comment counts as
+ * whitespace: from a '#' through the next byte 10 or 13 (so it alone separates two numbers). A comment
+ * that the file's end cuts off is refused by 1, and so is one right after 255. Refusals: 1, 2, 9.
  */
 uint32_t mtb_p6_size(const uint8_t *file, size_t file_len, uint32_t *w, uint32_t *h);
 
@@ -240,8 +242,8 @@ uint32_t mtb_p6_size(const uint8_t *file, size_t file_len, uint32_t *w, uint32_t
 uint32_t mtb_p6_raster(const uint8_t *file, size_t file_len, size_t *start, size_t *length);
 
 /*
- * A raster written as a file; *written is the number of its bytes: 3*w*h and a header of 11 to 17.
- * Refusals: 2, 9, 10.
+ * A raster written as a file, with no comment in it; *written is the number of its bytes: 3*w*h and a
+ * header of 11 to 17. Refusals: 2, 9, 10.
  */
 uint32_t mtb_p6_write(uint32_t w, uint32_t h,
                       const uint8_t *raster, size_t raster_len,

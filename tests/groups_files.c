@@ -7,6 +7,24 @@
 
 enum { MOST_FILE = 70000 };
 
+/* A file in the making. */
+struct bytes {
+    uint8_t data[MOST_FILE];
+    size_t length;
+};
+
+static void put(struct bytes *file, const void *bytes, size_t count)
+{
+    must(file->length + count <= sizeof file->data, "a file fits its room");
+    memcpy(file->data + file->length, bytes, count);
+    file->length += count;
+}
+
+static void put_text(struct bytes *file, const char *text)
+{
+    put(file, text, strlen(text));
+}
+
 /* ---- P6 reader ---- */
 
 static uint32_t add_file(const void *file, size_t length)
@@ -18,15 +36,31 @@ static uint32_t add_file(const void *file, size_t length)
 /* A file of this header and this many bytes of raster. */
 static uint32_t add_header(const char *header, size_t header_len, size_t raster_len)
 {
-    static uint8_t file[MOST_FILE];
-    memcpy(file, header, header_len);
-    memcpy(file + header_len, noise, raster_len);
-    return add_file(file, header_len + raster_len);
+    static struct bytes file;
+    file.length = 0;
+    put(&file, header, header_len);
+    put(&file, noise, raster_len);
+    return add_file(file.data, file.length);
 }
 
 static uint32_t add_text(const char *header, size_t raster_len)
 {
     return add_header(header, strlen(header), raster_len);
+}
+
+static uint32_t add_whole(const char *file)
+{
+    return add_file(file, strlen(file));
+}
+
+/* Letters follow the header: noise could begin with what a bad one lacks. */
+static uint32_t add_lettered(const char *header)
+{
+    static struct bytes file;
+    file.length = 0;
+    put_text(&file, header);
+    put_text(&file, "abcdef");
+    return add_file(file.data, file.length);
 }
 
 static void good_headers(void)
@@ -71,14 +105,13 @@ static void bad_headers(void)
         "P6\n0000000002 1\n255\n", "P6\n2 0000000001\n255\n", "P6\n2 1\n0000000255\n", "P6\n9999999999 1\n255\n",
         "P6\n4294967298 1\n255\n", "P6\n2 1\n4294967551\n", "P6\n99999999999999999999 1\n255\n",
         "P6\n+2 1\n255\n",      "P6\n-2 1\n255\n",      "P6\n2,1\n255\n",       "P6\n2 1\n+255\n",     "P6\n0x2 1\n255\n",
-        "P6\n2. 1\n255\n",      "P6\n2 1\n255.0\n",     "P6\n#c\n2 1\n255\n",   "P6 # c\n2 1\n255\n",  "P6\n2 1 # c\n255\n",
-        "P6\n2 1\n255#c\n",     "P6\v2 1\n255\n",       "P6\f2 1\n255\n",       "P6\n2\v1\n255\n",     "P6\n2 1\n255\f",
-        "P6\n2 1\n\n",          "P6\n\n\n\n",           "P6\n2 1\nFF\n",        "\x89PNG\r\n",         "P6\n0 0\n254\n",
-        "P6\n0 1\n256\n",       "P6\n4097 1\n65535\n",
+        "P6\n2. 1\n255\n",      "P6\n2 1\n255.0\n",     "P6\v2 1\n255\n",       "P6\f2 1\n255\n",      "P6\n2\v1\n255\n",
+        "P6\n2 1\n255\f",       "P6\n2 1\n\n",          "P6\n\n\n\n",           "P6\n2 1\nFF\n",       "\x89PNG\r\n",
+        "P6\n0 0\n254\n",       "P6\n0 1\n256\n",       "P6\n4097 1\n65535\n",
     };
     begin_group("P6 reader: bad headers");
     for (int i = 0; i < COUNT_OF(bad); i++)
-        must(add_text(bad[i], 6) == 1 && add_text(bad[i], 0) == 1, "a bad header is 1");
+        must(add_lettered(bad[i]) == 1 && add_whole(bad[i]) == 1, "a bad header is 1");
 }
 
 static void bad_sizes(void)
@@ -112,6 +145,185 @@ static void cut_files(void)
     }
 }
 
+/* ---- Comments ---- */
+
+enum { COMMENT_PLACES = 3, LONG_COMMENT = 600 };
+
+/* A file of 2 by 1 with this in the place of the whitespace before its width, height or largest value. */
+static uint32_t add_between(int place, const char *white, size_t length)
+{
+    static const char *const fields[] = { "P6", "2", "1", "255" };
+    static struct bytes file;
+    file.length = 0;
+    for (int i = 0; i < COUNT_OF(fields); i++) {
+        put_text(&file, fields[i]);
+        put(&file, i == place ? white : " ", i == place ? length : 1);
+    }
+    put(&file, noise, 6);
+    return add_file(file.data, file.length);
+}
+
+/* A comment of every byte that does not end one, twice over and more. */
+static size_t long_comment(char comment[LONG_COMMENT])
+{
+    size_t length = 0;
+    comment[length++] = '#';
+    for (int byte = 0; length < LONG_COMMENT - 1; byte++)
+        if (byte % 256 != 10 && byte % 256 != 13)
+            comment[length++] = (char)byte;
+    comment[length++] = '\n';
+    return length;
+}
+
+static void good_comments(void)
+{
+    static const char *const white[] = {
+        "#c\n",       "#c\r",           "#c\r\n",                 "#c\n\r", "#\n",     "#\r",           "#\r\n",  " #c\n",
+        "\t# gain\r", "\n# gain 120\n", "\r\n# gain 120\r\n",     "#c\n \t", " #c\r ",  "#a\n#b\r#\n#\r", "# \t\n", "##\n",
+        "# # #\r",    "#255\r",         " #a\n\t#b\r\n #c\n ", "#P6 9 9 255\n",
+    };
+    char comment[LONG_COMMENT];
+    size_t length = long_comment(comment);
+    begin_group("P6 reader: comments at every place");
+    for (int place = 0; place < COMMENT_PLACES; place++) {
+        for (int i = 0; i < COUNT_OF(white); i++)
+            must(add_between(place, white[i], strlen(white[i])) == 0, "a comment is whitespace");
+        must(add_between(place, comment, length) == 0, "a comment may be long");
+    }
+    must(add_text("P6\n#c\n2 1\n255\n", 6) == 0 && add_text("P6 # c\n2 1\n255\n", 6) == 0, "a comment after P6");
+    must(add_text("P6#c\n2#c\n1#c\r255\n", 6) == 0, "comments alone separate");
+    must(add_text("P6\n2 1 # c\n0255 ", 6) == 0, "a zero is the largest value's first digit");
+    must(add_text("P6#c\n0#c\n1#c\n255\n", 0) == 2, "a bad size among comments is 2");
+    must(add_text("P6#c\n2#c\n1#c\n255\n", 5) == 9, "a short raster after comments is 9");
+}
+
+/* Every byte in a comment at all three places: all but two go on to the letter and the line end. */
+static void every_comment_byte(void)
+{
+    begin_group("P6 reader: every byte in a comment");
+    for (int byte = 0; byte < 256; byte++) {
+        char header[] = "P6#.c\n2#.c\r1#.c\n255\n";
+        header[3] = header[8] = header[13] = (char)byte;
+        must((add_header(header, sizeof header - 1, 6) == 0) == (byte != 10 && byte != 13), "10 and 13 end a comment");
+    }
+}
+
+static void misplaced_comments(void)
+{
+    static const char *const bad[] = {
+        "#c\nP6 2 1 255 ",  "#\nP6 2 1 255 ",   "P#c\n6 2 1 255 ",  "P6 2 1 2#c\n55 ",  "P6 2 1 25#c\n5 ",
+        "P6 2 1 0#c\n255 ", "P6 2 1 255#c\n",   "P6 2 1 255#\n",    "P6 2 1 255#",      "P6 2 1 255#c\n ",
+        "P6 2 1 255# ",     "P6 2#c\n1 1 255 ", "P6 2 1#c\n1 255 ", "P6#2\n#1\n#255\n", "P6#c\n2#c\n1#c\n255#c\n",
+        "P6 2 1 c#\n255 ",
+    };
+    begin_group("P6 reader: where no comment may stand");
+    for (int i = 0; i < COUNT_OF(bad); i++)
+        must(add_lettered(bad[i]) == 1, "a header that a comment leaves bad is 1");
+    static const char *const rasters[] = { "P6 2 1 255 #cdef\n", "P6 2 1 255\n#\n#\r#\n", "P6 2 1 255\n######",
+                                           "P6 2 1 255\r#\nabcd" };
+    for (int i = 0; i < COUNT_OF(rasters); i++) {
+        must(add_whole(rasters[i]) == 0, "a `#` after 255 and its whitespace belongs to the raster");
+        must(add_lettered(rasters[i]) == 9, "a comment after 255 and its whitespace belongs to the raster");
+    }
+}
+
+/* Cut off at each place: right after the `#`, later, and after all that a header goes on with. Then with a 10 or 13 in what looked
+ * like the raster: good where the header goes on after it. */
+static void cut_comments(void)
+{
+    static const char *const cut[] = {
+        "P6#",         "P6 #",         "P6 # gain 120", "P6\n#c\n#",   "P6 #2 1 255 abcdef",   "P6#c\n #2 1 255 abcdef",
+        "P6 2#",       "P6 2 #",       "P6 2 # wide",   "P6 2\n#c\r#", "P6 2 #1 255 abcdef",   "P6 2#c\n #1 255 abcdef",
+        "P6 2 1#",     "P6 2 1 #",     "P6 2 1 # 255",  "P6 2 1#c\n#", "P6 2 1 #255 abcdef",   "P6 2 1#c\n #255 abcdef",
+        "P6 #2 1 255 abcde\n", "P6 2 #1 255 abcde\r", "P6 2 1 #255 abcde\n", "P6 2 1 #255 abcd\n255",
+    };
+    static const char *const ended[] = { "P6 #2 1 255 abc\n2 1 255 abcdef", "P6 2 #1 255 a\r\n1 255 abcdef",
+                                         "P6 2 1 #255 abc\r255 abcdef", "P6 2 1 #255 \n255 abcdef" };
+    static const char whole[] = "P6 #a\r\n#\n2#b\r1\t#c\n#\r255\nabcdef";
+    begin_group("P6 reader: cut-off comments");
+    for (int i = 0; i < COUNT_OF(cut); i++)
+        must(add_whole(cut[i]) == 1, "a comment with no whole header after it is 1");
+    for (int i = 0; i < COUNT_OF(ended); i++)
+        must(add_whole(ended[i]) == 0, "a later 10 or 13 ends a comment");
+    for (size_t length = 0; length < sizeof whole; length++)
+        must((add_file(whole, length) == 0) == (length == sizeof whole - 1), "a cut-off file is refused");
+}
+
+static void put_white_byte(struct bytes *file)
+{
+    put(file, &"\t\n\r "[random_below(4)], 1);
+}
+
+/* Any bytes, often such as a header has. */
+static void put_comment(struct bytes *file)
+{
+    put_text(file, "#");
+    for (uint32_t left = random_below(7); left > 0; left--) {
+        char byte = random_below(2) ? "# 0125P6"[random_below(8)] : (char)random_below(256);
+        if (byte != 10 && byte != 13)
+            put(file, &byte, 1);
+    }
+    put_text(file, random_below(2) ? "\n" : "\r");
+}
+
+/* Bytes of whitespace and comments, at least one of either. */
+static void put_whitespace(struct bytes *file)
+{
+    for (uint32_t left = 1 + random_below(3); left > 0; left--)
+        if (random_below(2))
+            put_white_byte(file);
+        else
+            put_comment(file);
+}
+
+static void put_commented_file(struct bytes *file)
+{
+    static const char *const fields[] = { "P6", "2", "1", "255" };
+    file->length = 0;
+    for (int i = 0; i < COUNT_OF(fields); i++) {
+        put_text(file, fields[i]);
+        if (i < COMMENT_PLACES)
+            put_whitespace(file);
+    }
+    put_white_byte(file);
+    put(file, noise + random_below(1000), 6);
+}
+
+/* A byte before the raster replaced, put in or taken out. */
+static void damage(struct bytes *file)
+{
+    uint8_t byte = (uint8_t)"P6 \t\r\n0125#\vx"[random_below(13)];
+    uint8_t *at = file->data + random_below((uint32_t)file->length - 6), *end = file->data + file->length;
+    switch (random_below(3)) {
+    case 0:
+        *at = byte;
+        break;
+    case 1:
+        memmove(at + 1, at, (size_t)(end - at));
+        *at = byte;
+        file->length++;
+        break;
+    default:
+        memmove(at, at + 1, (size_t)(end - at) - 1);
+        file->length--;
+    }
+}
+
+static void random_comments(void)
+{
+    static struct bytes file;
+    begin_group("P6 reader: random comments");
+    for (int i = 0; i < 90; i++) {
+        put_commented_file(&file);
+        if (i % 3 == 0)
+            must(add_file(file.data, file.length) == 0, "comments are whitespace");
+        damage(&file);
+        if (i % 3 == 1)
+            damage(&file);
+        add_file(file.data, file.length);
+    }
+}
+
 /* ---- P6 writer ---- */
 
 static struct vector write_vector(uint32_t w, uint32_t h)
@@ -137,6 +349,30 @@ static void write_groups(void)
     add_subsets(write_vector(12, 5), breakers, COUNT_OF(breakers), 8);
 }
 
+/* What the writer wrote is read as the same size and raster, also where that raster looks like comments. */
+static void read_back(uint32_t w, uint32_t h, const uint8_t *raster)
+{
+    static uint8_t file[MOST_FILE];
+    size_t raster_len = (size_t)3 * w * h, length = 0, start = 0, read_len = 0;
+    uint32_t read_w = 0, read_h = 0;
+    must(ref_p6_write(w, h, raster, raster_len, file, sizeof file, &length) == 0, "a good frame is written");
+    must(add_file(file, length) == 0, "a written file is read");
+    must(ref_p6_size(file, length, &read_w, &read_h) == 0 && read_w == w && read_h == h, "the same size is read");
+    must(ref_p6_raster(file, length, &start, &read_len) == 0 && read_len == raster_len &&
+             memcmp(file + start, raster, raster_len) == 0, "the same raster is read");
+}
+
+static void read_back_groups(void)
+{
+    static const uint32_t sides[][2] = { { 1, 1 }, { 2, 1 }, { 9, 10 }, { 10, 9 }, { 99, 1 }, { 100, 1 }, { 1, 101 } };
+    static const char *const rasters[] = { "#c\n#c\r", "######", "\n\n\n\n\n\n", "\r#\n255", " 255\n#" };
+    begin_group("P6 reader: what the writer wrote");
+    for (int i = 0; i < COUNT_OF(sides); i++)
+        read_back(sides[i][0], sides[i][1], noise + random_below(200));
+    for (int i = 0; i < COUNT_OF(rasters); i++)
+        read_back(2, 1, (const uint8_t *)rasters[i]);
+}
+
 void p6_groups(uint64_t seed)
 {
     random_begin(seed, "p6");
@@ -145,7 +381,13 @@ void p6_groups(uint64_t seed)
     bad_headers();
     bad_sizes();
     cut_files();
+    good_comments();
+    every_comment_byte();
+    misplaced_comments();
+    cut_comments();
+    random_comments();
     write_groups();
+    read_back_groups();
 }
 
 /* ---- Common area ---- */
@@ -286,11 +528,6 @@ void view_groups(uint64_t seed)
 
 /* ---- The program `bracket` ---- */
 
-struct bytes {
-    uint8_t data[MOST_FILE];
-    size_t length;
-};
-
 static size_t add_run(const void *input, size_t input_len, const struct bytes *first, const struct bytes *second)
 {
     struct vector v = { .call = CALL_BRACKET,
@@ -305,25 +542,33 @@ static size_t run(const char *input, const struct bytes *first, const struct byt
     return add_run(input, strlen(input), first, second);
 }
 
+/* Adds the run, and tells whether it prints this text. */
+static bool prints(const char *text, const char *input, const struct bytes *first, const struct bytes *second)
+{
+    uint8_t out[REF_BRACKET_ROOM];
+    run(input, first, second);
+    size_t length = ref_bracket((const uint8_t *)input, strlen(input), first->data, first->length, second->data, second->length, out);
+    return length == strlen(text) && memcmp(out, text, length) == 0;
+}
+
 /* A file with this header text before the raster. */
 static void put_file(struct bytes *file, const char *header, const uint8_t *raster, size_t raster_len)
 {
-    size_t length = strlen(header);
-    memcpy(file->data, header, length);
-    memcpy(file->data + length, raster, raster_len);
-    file->length = length + raster_len;
+    file->length = 0;
+    put_text(file, header);
+    put(file, raster, raster_len);
 }
 
-/* The two frames of document 01's printed case. */
-static void printed_files(struct bytes *first, struct bytes *second)
+/* The two frames of document 01's printed case, each with its header. */
+static void printed_files(struct bytes *first, const char *header1, struct bytes *second, const char *header2)
 {
     static const char *const rows[2] = { "aaccaaccaaccabcc", "caaccaaccaaccabc" };
     static const uint8_t tones[3] = { 10, 20, 90 };
     uint8_t raster[2][48];
     for (int i = 0; i < 2 * 48; i++)
         raster[i / 48][i % 48] = tones[rows[i / 48][i % 48 / 3] - 'a'];
-    put_file(first, "P6\n4 4\n255\n", raster[0], 48);
-    put_file(second, "P6\n4 4\n255\n", raster[1], 48);
+    put_file(first, header1, raster[0], 48);
+    put_file(second, header2, raster[1], 48);
 }
 
 static const char *const good_lines[] = { "0 0 50",        "0 0 50\n",    "0 0 50\n1 1 50\n", "0 0 50\nx",  "00 00 050",
@@ -367,7 +612,7 @@ static struct bytes file1, file2, other, empty;
 static void settings_lines(void)
 {
     begin_group("bracket: settings lines");
-    printed_files(&file1, &file2);
+    printed_files(&file1, "P6\n4 4\n255\n", &file2, "P6\n4 4\n255\n");
     for (int i = 0; i < COUNT_OF(good_lines); i++)
         must(run(good_lines[i], &file1, &file2) != 9, "a good line");
     for (int i = 0; i < COUNT_OF(bad_lines); i++)
@@ -405,7 +650,31 @@ static void file_numbers(void)
     run("0 0 50\n", &empty, &empty);
 }
 
-/* 4 by 1366 needs more words than are lent. Then a file of just 65536 bytes, and one that is good but for one byte more. */
+/* The printed case with comments in one header or both; then bad headers of a good file, with no byte 10 or 13 in the raster. */
+static void commented_files(void)
+{
+    static const char plain[] = "P6\n4 4\n255\n";
+    static const char *const good[] = { "P6\n# gain 120\n4 4\n255\n", "P6\n4 # gain 120\r4\n255\n", "P6\n4 4\n# gain 120\r\n255\n",
+                                        "P6#c\n4#c\n4#c\r255\n",       "P6#\r#\n4 ## 5\n 4 #255\n255 " };
+    static const char *const bad[] = { "P6 #4 4 255 ",        "P6 4 #4 255 ",         "P6 4 4 #255 ",      "P6 4 4#c\n #255 ",
+                                       "#c\nP6\n4 4\n255\n",  "P#c\n6\n4 4\n255\n",  "P6\n4 4\n255#c\n",  "P6\n4 4\n25#c\n5\n" };
+    uint8_t flat[48];
+    memset(flat, 77, sizeof flat);
+    begin_group("bracket: comments in headers");
+    for (int i = 0; i < COUNT_OF(good); i++)
+        for (int k = 0; k < 3; k++) {
+            printed_files(&file1, k == 0 ? plain : good[i], &file2, k == 1 ? plain : good[(i + k) % COUNT_OF(good)]);
+            must(prints("offset -1 -1\n0: 0 0 0 5 7 6 8 10 8\n", "0 0 50\n", &file1, &file2), "comments change nothing");
+        }
+    for (int i = 0; i < COUNT_OF(bad); i++) {
+        put_file(&file1, bad[i], flat, sizeof flat);
+        put_file(&file2, good[i % COUNT_OF(good)], flat, sizeof flat);
+        must(prints("refused 1\n", "0 0 50\n", &file1, &file2), "a bad comment is 1, in the first file");
+        must(prints("refused 1\n", "0 0 50\n", &file2, &file1), "a bad comment is 1, in the second file");
+    }
+}
+
+/* 4 by 1366 needs more words than are lent. Then a file of just 65536 bytes, and one that is good but for a comment's byte more. */
 static void file_limits(void)
 {
     static uint8_t raster[65505];
@@ -415,8 +684,8 @@ static void file_limits(void)
     put_file(&file1, "P6\n4 1366\n255\n", raster, 12 * 1366);
     must(run("0 0 50\n", &file1, &file1) == strlen("refused 11\n"), "8196 words are too many");
     make_frames((struct made){ 1, 55, 397 }, sizeof raster, raster);
-    put_file(&file1, "P6              55     397 255 ", raster, sizeof raster);
-    put_file(&other, "P6              55      397 255 ", raster, sizeof raster);
+    put_file(&file1, "P6   # gain 120\r55     397 255 ", raster, sizeof raster);
+    put_file(&other, "P6   # gain 1200\r55     397 255 ", raster, sizeof raster);
     must(file1.length == 65536 && run("3 0 50\n", &file1, &file1) > 60, "65536 bytes are read");
     must(other.length == 65537 && run("3 0 50\n", &other, &file1) == 10, "65537 bytes count as empty");
     must(run("3 0 50\n", &file1, &other) == 10, "65537 bytes count as empty");
@@ -451,6 +720,7 @@ void bracket_groups(uint64_t seed)
     random_begin(seed, "bracket");
     settings_lines();
     file_numbers();
+    commented_files();
     file_limits();
     alignments();
 }

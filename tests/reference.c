@@ -1,4 +1,4 @@
-/* Document 01 and Papers 1 and 2 of document 02, pixel by pixel. Sentences in quotation marks are the documents'. */
+/* Document 01 and Papers 1 to 3 of document 02, pixel by pixel. Sentences in quotation marks are the documents'. */
 #include "reference.h"
 
 #include <stdio.h>
@@ -744,10 +744,22 @@ static bool take_white(struct text *file)
     return take(file, 9) || take(file, 10) || take(file, 13) || take(file, 32);
 }
 
+/* "a `#` standing where whitespace may stand begins a comment. It runs through the next byte 10 or 13". Of one "cut off by the end
+ * of the file" nothing is left that could be the number after it: it "is refused by 1". */
+static bool take_comment(struct text *file)
+{
+    if (!take(file, '#'))
+        return false;
+    while (file->at < file->length && !take(file, 10) && !take(file, 13))
+        file->at++;
+    return true;
+}
+
+/* Whitespace "From the end of `P6` to the first digit of the largest value": a comment "counts as whitespace". */
 static bool take_whitespace(struct text *file)
 {
     bool some = false;
-    while (take_white(file))
+    while (take_white(file) || take_comment(file))
         some = true;
     return some;
 }
@@ -800,7 +812,7 @@ uint32_t ref_p6_raster(const uint8_t *file, size_t file_len, size_t *start, size
 }
 
 /* "The writer uses one byte 10 for each whitespace but a 32 between width and height, no leading zeros, and tells the number of
- * bytes written." */
+ * bytes written." Of comments it "emits none". */
 uint32_t ref_p6_write(uint32_t w, uint32_t h, const uint8_t *raster, size_t raster_len, uint8_t *out, size_t out_len,
                       size_t *written)
 {

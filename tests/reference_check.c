@@ -1,5 +1,6 @@
 /* The reference itself against what documents 01 and 02 print: their worked examples, also those that the library proves, and the
- * table of numbers; and a tie and compared numbers worked by hand. Prints what it compared; exit status 1 when something differs. */
+ * table of numbers; and a tie, compared numbers and comments worked by hand. Prints what it compared; exit status 1 when something
+ * differs. */
 #include "reference.h"
 
 #include <stdio.h>
@@ -292,6 +293,71 @@ static void check_compared_lengths(void)
     expect("eight of both refused by 10", lengths_number(8, 8) == 10);
 }
 
+/* ---- Comments ---- */
+
+/* The number of a file. An accepted one is 2 by 1, and its last six bytes are the raster. */
+static uint32_t file_number(const char *text)
+{
+    const uint8_t *file = (const uint8_t *)text;
+    size_t file_len = strlen(text), start = 0, length = 0;
+    uint32_t w = 0, h = 0, number = ref_p6_size(file, file_len, &w, &h);
+    expect("size and raster have one number", ref_p6_raster(file, file_len, &start, &length) == number);
+    expect("2 by 1, the raster at the end", number != 0 || (w == 2 && h == 1 && start + 6 == file_len && length == 6));
+    return number;
+}
+
+/* "a `#` standing where whitespace may stand begins a comment. It runs through the next byte 10 or 13 and counts as whitespace." */
+static void check_comments(void)
+{
+    expect("a line before the width", file_number("P6\n# gain 120\n2 1\n255\nabcdef") == 0);
+    expect("a line before the height", file_number("P6\n2\n# gain 120\n1\n255\nabcdef") == 0);
+    expect("a line before the largest value", file_number("P6\n2 1\n# gain 120\n255\nabcdef") == 0);
+    expect("comments alone separate", file_number("P6#c\n2#c\n1#c\r255\nabcdef") == 0);
+    expect("blanks on both sides", file_number("P6\t#c\n 2 #c\r\r1 #c\n\t255\nabcdef") == 0);
+    expect("several and empty ones", file_number("P6#\n#\r#c\n2 # c\n # c\n1#\r\n#\r\n255\nabcdef") == 0);
+    expect("`#` and fields in a comment", file_number("P6 ## 3 3 255\n2 1 #255\r255\nabcdef") == 0);
+    expect("a comment hides its bytes alone", file_number("P6 #2\n1 1 255\nabcdef") == 9);
+    expect("no number between comments", file_number("P6#2\n#1\n#255\nabcdef") == 1);
+}
+
+/* "From the end of `P6` to the first digit of the largest value" */
+static void check_no_comments(void)
+{
+    expect("before P6", file_number("#c\nP6 2 1 255\nabcdef") == 1);
+    expect("between P and 6", file_number("P#c\n6 2 1 255\nabcdef") == 1);
+    expect("in the largest value", file_number("P6 2 1 25#c\n5\nabcdef") == 1);
+    expect("after its first digit", file_number("P6 2 1 0#c\n255\nabcdef") == 1);
+    expect("right after 255", file_number("P6 2 1 255#c\nabcdef") == 1 && file_number("P6 2 1 255#\nabcdef") == 1);
+    expect("after 255 and a blank: six bytes are the raster", file_number("P6 2 1 255 #cdef\n") == 0);
+    expect("after 255 and a blank: nine bytes are too many", file_number("P6 2 1 255\n#c\nabcdef") == 9);
+    expect("a width ends at a comment", file_number("P6 2#c\n1 1 255\nabcdef") == 1);
+}
+
+/* "A comment cut off by the end of the file is refused by 1." */
+static void check_cut_comments(void)
+{
+    expect("after P6", file_number("P6#") == 1 && file_number("P6 # gain 120") == 1);
+    expect("after the width", file_number("P6 2#") == 1 && file_number("P6 2 # gain 120") == 1);
+    expect("after the height", file_number("P6 2 1#") == 1 && file_number("P6 2 1 # gain 120") == 1);
+    expect("no 10 or 13 up to the raster's end", file_number("P6 2 1 #255 abcdef") == 1);
+    expect("a 10 at the raster's end", file_number("P6 2 1 #255 abcde\n") == 1);
+    expect("a 10 among what looked like the raster", file_number("P6 2 1 #255 abc\n255 abcdef") == 0);
+}
+
+/* "The writer emits none, so writing and then reading is still the identity." */
+static void check_written_comments(void)
+{
+    static const uint8_t raster[6] = { '#', 'c', '\n', '#', 'c', '\r' };
+    uint8_t file[100];
+    size_t written = 0, start = 0, length = 0;
+    uint32_t w = 0, h = 0;
+    expect("a raster like comments is written", ref_p6_write(2, 1, raster, 6, file, sizeof file, &written) == 0);
+    expect("no comment in the header", written > 6 && memchr(file, '#', written) == file + written - 6);
+    expect("the same size is read", ref_p6_size(file, written, &w, &h) == 0 && w == 2 && h == 1);
+    expect("the same raster is read", ref_p6_raster(file, written, &start, &length) == 0 && start + length == written &&
+                                          length == 6 && memcmp(file + start, raster, 6) == 0);
+}
+
 int main(void)
 {
     check_pixels();
@@ -305,6 +371,10 @@ int main(void)
     check_shifts();
     check_compared();
     check_compared_lengths();
+    check_comments();
+    check_no_comments();
+    check_cut_comments();
+    check_written_comments();
     printf("reference: %d compared, %d differ\n", checked, different);
     return different ? EXIT_FAILURE : EXIT_SUCCESS;
 }

@@ -61,6 +61,16 @@ static void fill(const struct file *file, uint8_t *raster, size_t length)
     }
 }
 
+/* Blanks, or a comment of them. */
+static void put_blanks(uint8_t *at, size_t count, bool comment)
+{
+    memset(at, ' ', count);
+    if (comment) {
+        at[0] = '#';
+        at[count - 1] = '\n';
+    }
+}
+
 static uint8_t *frame_bytes(const struct file *file, size_t *length)
 {
     char plain[HEADER_ROOM];
@@ -71,7 +81,7 @@ static uint8_t *frame_bytes(const struct file *file, size_t *length)
     *length = header_len + blanks + raster_len;
     uint8_t *bytes = block(*length);
     memcpy(bytes, header, before);
-    memset(bytes + before, ' ', blanks);
+    put_blanks(bytes + before, blanks, file->comment);
     memcpy(bytes + before + blanks, header + before, header_len - before);
     fill(file, bytes + header_len + blanks, raster_len);
     return bytes;
@@ -105,6 +115,8 @@ uint8_t *file_bytes(const struct file *file, size_t *length)
 /* In parentheses, so that each is one argument of a macro. */
 #define HEADER(spelled, bytes) ((const struct file){ .kind = BYTES, .header = spelled, .follow = bytes })
 #define SPELLED(spelled) ((const struct file){ .kind = LETTERS, .header = spelled, PRINTED_FIRST })
+#define SPELLED_SECOND(spelled) ((const struct file){ .kind = LETTERS, .header = spelled, PRINTED_SECOND })
+#define COMMENTED(bytes) ((const struct file){ .kind = LETTERS, PRINTED_FIRST, .length = bytes, .comment = true })
 #define FLAT(side1, side2) ((const struct file){ .kind = EVEN, .w = side1, .h = side2 })
 #define RANDOM(side1, side2, seed) ((const struct file){ .kind = NOISE, .w = side1, .h = side2, .x = seed })
 #define SEEN(side1, side2, at_x, at_y) LONG_SEEN(side1, side2, at_x, at_y, 0)
@@ -113,8 +125,9 @@ uint8_t *file_bytes(const struct file *file, size_t *length)
 
 /* Document 01's printed case; its first frame "with 10, 20, 90 replaced by 3, 4, 200". */
 #define PRINTED_FIRST .text = "aaccaaccaaccabcc", .tones = { 10, 20, 90 }, .w = 4, .h = 4
+#define PRINTED_SECOND .text = "caaccaaccaaccabc", .tones = { 10, 20, 90 }, .w = 4, .h = 4
 static const struct file first = { .kind = LETTERS, PRINTED_FIRST };
-static const struct file second = { .kind = LETTERS, .text = "caaccaaccaaccabc", .tones = { 10, 20, 90 }, .w = 4, .h = 4 };
+static const struct file second = { .kind = LETTERS, PRINTED_SECOND };
 static const struct file brighter = { .kind = LETTERS, .text = "aaccaaccaaccabcc", .tones = { 3, 4, 200 }, .w = 4, .h = 4 };
 #define ANSWER "offset -1 -1\n0: 0 0 0 5 7 6 8 10 8\n"
 #define NINE_ZEROS "0 0 0 0 0 0 0 0 0\n"
@@ -213,7 +226,6 @@ const struct run runs[] = {
     PRINTS(ANSWER, "every whitespace, leading zeros", "0 0 50\n", SPELLED("P6\r\n\t 004\t000000004\r0255\t"), second),
     REFUSED(1, "P5", "0 0 50\n", HEADER("P5\n4 4\n255\n", 48), second),
     REFUSED(1, "no blank after P6", "0 0 50\n", first, HEADER("P64 4 255\n", 48)),
-    REFUSED(1, "comment", "0 0 50\n", HEADER("P6\n# c\n4 4\n255\n", 48), second),
     REFUSED(1, "largest value 254", "0 0 50\n", HEADER("P6\n4 4\n254\n", 48), second),
     REFUSED(1, "largest value 256 in the second", "0 0 50\n", first, HEADER("P6\n4 4\n256\n", 48)),
     REFUSED(1, "ten digits in a header", "0 0 50\n", HEADER("P6\n0000000004 4\n255\n", 48), second),
@@ -223,6 +235,27 @@ const struct run runs[] = {
     REFUSED(2, "second of height 0", "0 0 50\n", first, HEADER("P6\n4 0\n255\n", 0)),
     REFUSED(2, "width 4097", "0 0 50\n", HEADER("P6\n4097 4\n255\n", 3 * 4097 * 4), second),
     REFUSED(2, "second of height 4097", "0 0 50\n", first, HEADER("P6\n4 4097\n255\n", 3 * 4 * 4097)),
+
+    /* Comments in headers. After HEADER no byte is 10 or 13; the tone 10 of the printed case is a line end. */
+    PRINTS(ANSWER, "comment line", "0 0 50\n", SPELLED("P6\n# gain 120\n4 4\n255\n"), second),
+    PRINTS(ANSWER, "comment right after P6", "0 0 50\n", SPELLED("P6# gain 120\n4 4\n255\n"), second),
+    PRINTS(ANSWER, "comment after the width", "0 0 50\n", first, SPELLED_SECOND("P6\n4# wide\n 4\n255\n")),
+    PRINTS(ANSWER, "comment after the height", "0 0 50\n", SPELLED("P6\n4 4 # high\n255\n"), second),
+    PRINTS(ANSWER, "comments alone separate", "0 0 50\n", first, SPELLED_SECOND("P6#c\n4#c\n4#c\r255\n")),
+    PRINTS(ANSWER, "comment that a 13 ends", "0 0 50\n", SPELLED("P6\n# gain 120\r4 4\n255\n"), second),
+    PRINTS(ANSWER, "comments that 13 10 ends", "0 0 50\n", SPELLED("P6\r\n# gain 120\r\n4 4\r\n#\r\n255\n"), second),
+    PRINTS(ANSWER, "comments in both", "0 0 50\n", SPELLED("P6\n# one\n#\n4 4\n255\n"), SPELLED_SECOND("P6 ##\r4 # 5\n4\n255\n")),
+    PRINTS(ANSWER, "comment up to 65536 bytes", "0 0 50\n", COMMENTED(65536), second),
+    REFUSED(1, "comment up to 65537 bytes", "0 0 50\n", COMMENTED(65537), second),
+    REFUSED(1, "comment cut off after P6", "0 0 50\n", HEADER("P6 # gain 120", 0), second),
+    REFUSED(1, "comment cut off after the width, in the second", "0 0 50\n", first, HEADER("P6\n4 #", 0)),
+    REFUSED(1, "comment cut off after the height", "0 0 50\n", HEADER("P6 4 4 #255 ", 48), second),
+    REFUSED(1, "comment cut off after the height, in the second", "0 0 50\n", first, HEADER("P6 4 4 #255 ", 48)),
+    REFUSED(1, "comment that runs into the raster", "0 0 50\n", SPELLED("P6 4 4 #255 "), second),
+    REFUSED(1, "comment right after 255", "0 0 50\n", HEADER("P6\n4 4\n255# c\n", 48), second),
+    REFUSED(1, "comment in the largest value", "0 0 50\n", first, HEADER("P6\n4 4\n25# c\n5\n", 48)),
+    REFUSED(1, "comment before P6", "0 0 50\n", HEADER("# c\nP6\n4 4\n255\n", 48), second),
+    REFUSED(9, "comment line after 255", "0 0 50\n", HEADER("P6\n4 4\n255\n# c\n", 48), second),
 
     /* Settings, lengths, sizes, memory. */
     REFUSED(3, "s = 9", "9 0 50\n", first, second),

@@ -19,6 +19,7 @@ struct file {
     uint32_t w, h;
     int32_t x, y;       /* VIEW: its place; NOISE: x is a seed */
     size_t length;      /* of the whole file, by blanks after "P6"; 0: no such blanks */
+    bool comment;       /* a comment in the place of these blanks */
 };
 
 struct run {

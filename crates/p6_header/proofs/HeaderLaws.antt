@@ -1,17 +1,17 @@
 -- Laws of headers: what a good one says of its file.
-use mathlib.Core.Path.{_≡_, refl, sym, _∙_}
-use mathlib.Core.Bool.{Bool, true, false, _&&_, cond, true≢false, false≢true}
-use mathlib.Core.Logic.{⊎-elim}
+use mathlib.Core.Path.{_≡_, refl}
+use mathlib.Core.Bool.{Bool, true, false, _&&_, cond, false≢true}
 use mathlib.Core.List.{List, _++_}
-use Prim.Native.Nat.{ℕ, suc, _+_, _≤_, _<_}
+use Prim.Native.Nat.{ℕ, suc, _+_, _≤_}
 use native.Mathlib.Omega.{arith}
 use lib.Dec.{eqb, leb}
-use lib.ListN.{length, getD, drop, List·getD-eq-default}
+use lib.ListN.{length, getD, drop}
 use borrow.Author.Tests.{le-leb, leb-true}
 use Rattle.text.specs.declared.Number.{Number}
-use Rattle.rules.proofs.SumLaws.{order}
 use Rattle.p6_header.specs.declared.Header.{Header}
-use Rattle.p6_header.specs.P6Header.{magic, isMagic, isWhite, fieldOf, after, ending, fields, headerOf, startIn}
+use Rattle.p6_header.specs.P6Grammar.{magic, isWhite}
+use Rattle.p6_header.specs.P6Header.{isMagic, fieldOf, after, ending, fields, headerOf, startIn}
+use Rattle.p6_header.proofs.BlankLaws.{white-within}
 
 pub magic-long : (file : List ℕ) → isMagic file ≡ true → 2 ≤ length file
 unfolding isMagic
@@ -25,21 +25,13 @@ pub magic-begins : (l : List ℕ) → isMagic (magic ++ l) ≡ true
 unfolding isMagic
 magic-begins l = rw (le-leb 2 (suc (suc (length l))) (omega arith))
 
--- there is no whitespace past the end
-pub white-past : (l : List ℕ) (n : ℕ) → length l ≤ n → isWhite (getD l n 0) ≡ false
-unfolding isWhite
-white-past l n k = rw (List·getD-eq-default l 0 k)
-
 -- The raster begins in the file or at its end.
 ending-within : (file : List ℕ) (w h largest at : ℕ) → startIn (ending file w h largest at) ≤ length file
 unfolding ending startIn
 ending-within file w h largest at = split (eqb largest 255) (isWhite (getD file at 0)) refl
   where
-    white : isWhite (getD file at 0) ≡ true → at + 1 ≤ length file
-    white e = ⊎-elim (λ (l : at < length file). omega arith) (λ (l : length file ≤ at). absurd (true≢false (sym e ∙ white-past file at l))) (order at (length file))
-
     split : (t u : Bool) → isWhite (getD file at 0) ≡ u → startIn (cond (t && u) (Header.Good w h (at + 1)) Header.Bad) ≤ length file
-    split true true e = white e
+    split true true e = omega (arith, white-within file at e)
     split true false e = omega arith
     split false u e = omega arith
 

@@ -1,24 +1,33 @@
--- P6 (Netpbm, document "ppm"), by document 01's grammar: "the file begins with the bytes 50 36 hexadecimal, "P6"; then whitespace,
--- width, whitespace, height, whitespace, 255, exactly one whitespace byte, raster."
-use mathlib.Core.Bool.{Bool, _&&_, _||_, cond}
-use mathlib.Core.List.{List, [], _∷_}
-use Prim.Native.Nat.{ℕ, _+_}
-use lib.Dec.{eqb, leb}
+-- The header that is found in a file, piece by piece. That these are the pieces of the grammar, no more and no less, is `ByGrammar`.
+use mathlib.Core.Bool.{Bool, _&&_, cond}
+use mathlib.Core.List.{List}
+use Prim.Native.Nat.{ℕ, zero, suc, _+_}
+use lib.Dec.{eqb, ltb, leb}
 use lib.ListN.{length, getD, drop}
 use Rattle.text.specs.declared.Number.{Number}
 use Rattle.text.specs.Digits.{leading, numberOf}
 use Rattle.p6_header.specs.declared.Header.{Header}
-
--- "the bytes 50 36 hexadecimal, "P6""
-abbrev pub magic : List ℕ
-magic = 0x50 ∷ 0x36 ∷ []
+use Rattle.p6_header.specs.P6Grammar.{isWhite, hash, inLine}
 
 unfoldable pub isMagic : List ℕ → Bool
 isMagic file = leb 2 (length file) && (eqb (getD file 0 0) 0x50 && eqb (getD file 1 0) 0x36)
 
--- "Whitespace is one or more of the bytes 9, 10, 13 and 32."
-unfoldable pub isWhite : ℕ → Bool
-isWhite b = eqb b 9 || (eqb b 10 || (eqb b 13 || eqb b 32))
+-- How many bytes a comment takes, "through the next byte 10 or 13"; 0 where it is "cut off by the end of the file".
+unfoldable pub commentLength : List ℕ → ℕ
+commentLength l = let n = leading inLine l in cond (ltb n (length l)) (n + 1) 0
+
+-- how many bytes the first blank takes, a byte of whitespace or a comment; 0 where the bytes begin with none
+unfoldable pub blankLength : List ℕ → ℕ
+blankLength l = cond (isWhite (getD l 0 0)) 1 (cond (eqb (getD l 0 0) hash) (commentLength l) 0)
+
+-- how many bytes the first k blanks take, or as many as there are
+unfoldable pub blanksLength : ℕ → List ℕ → ℕ
+blanksLength zero l = 0
+blanksLength (suc k) l = let n = blankLength l in cond (leb 1 n) (n + blanksLength k (drop n l)) 0
+
+-- how many bytes all blanks at the beginning take: there are no more of them than bytes
+unfoldable pub whitespaceLength : List ℕ → ℕ
+whitespaceLength l = blanksLength (length l) l
 
 -- whitespace and then a number, at the beginning of some bytes: the number, and how many bytes both take
 unfoldable pub placed : ℕ → Number → Number
@@ -26,7 +35,7 @@ placed blanks Number.Bad = Number.Bad
 placed blanks (Number.Read value count) = cond (leb 1 blanks) (Number.Read value (blanks + count)) Number.Bad
 
 unfoldable pub fieldOf : List ℕ → Number
-fieldOf l = let blanks = leading isWhite l in placed blanks (numberOf (drop blanks l))
+fieldOf l = let blanks = whitespaceLength l in placed blanks (numberOf (drop blanks l))
 
 -- a field at place `at`, and what follows from its value and from the place after it; a header without it is bad
 unfoldable pub after : ℕ → Number → (ℕ → ℕ → Header) → Header

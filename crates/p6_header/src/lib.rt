@@ -2,8 +2,9 @@
 
 use text::Number;
 ghost use mathlib.Core.Path.{_≡_};
-ghost use Rattle.text.specs.Digits.{leading};
-ghost use Rattle.p6_header.specs.P6Header.{isMagic, isWhite, fieldOf, ending, headerOf};
+ghost use Rattle.p6_header.specs.P6Grammar.{isWhite, endsLine, WhiteOrComment};
+ghost use Rattle.p6_header.specs.P6Header.{isMagic, commentLength, blankLength, whitespaceLength, fieldOf, ending};
+ghost use Rattle.p6_header.specs.ByGrammar.{Tells};
 
 // What a file's first bytes say: the size, and where the raster begins.
 pub enum Header {
@@ -13,6 +14,9 @@ pub enum Header {
 
 // The bytes that every P6 file begins with.
 pub const MAGIC: [u8; 2] = *b"P6";
+
+// The byte that begins a comment.
+const HASH: u8 = b'#';
 
 // The largest value of a sample, the only one that is read and written.
 pub const LARGEST: u32 = 255;
@@ -35,15 +39,53 @@ fn is_white(b: u8) -> bool
     b == 9 || (b == 10 || (b == 13 || b == 32))
 }
 
-fn leading_white(bytes: &[u8]) -> usize
-    ensures { λ r. ⌜ r ≡ leading isWhite (now (bytes .entry)) ⌝ }
+fn ends_line(b: u8) -> bool
+    ensures { λ r. ⌜ r ≡ endsLine b ⌝ }
+{
+    b == 10 || b == 13
+}
+
+// How many bytes a comment takes, the one that ends its line included.
+fn comment_length(bytes: &[u8]) -> usize
+    ensures { λ r. ⌜ r ≡ commentLength (now (bytes .entry)) ⌝ }
 {
     let mut n: usize = 0;
     while n < bytes.len() {
-        if !is_white(bytes[n]) {
-            return n;
+        if ends_line(bytes[n]) {
+            return n + 1;
         }
         n += 1;
+    }
+    0 // the file cuts it off
+}
+
+// How many bytes the first blank takes, a byte of whitespace or a comment; 0 where the bytes begin with none.
+fn blank_length(bytes: &[u8]) -> usize
+    ensures { λ r. ⌜ r ≡ blankLength (now (bytes .entry)) ⌝ }
+{
+    if bytes.len() == 0 {
+        return 0;
+    }
+    if is_white(bytes[0]) {
+        return 1;
+    }
+    if bytes[0] != HASH {
+        return 0;
+    }
+    comment_length(bytes)
+}
+
+// How many bytes all blanks at the beginning take.
+fn whitespace_length(bytes: &[u8]) -> usize
+    ensures { λ r. ⌜ r ≡ whitespaceLength (now (bytes .entry)) ⌝ }
+{
+    let mut n: usize = 0;
+    while n < bytes.len() {
+        let blank = blank_length(&bytes[n..]);
+        if blank == 0 {
+            return n;
+        }
+        n += blank;
     }
     n
 }
@@ -52,7 +94,7 @@ fn leading_white(bytes: &[u8]) -> usize
 fn read_field(bytes: &[u8]) -> Number
     ensures { λ r. ⌜ r ≡ fieldOf (now (bytes .entry)) ⌝ }
 {
-    let blanks = leading_white(bytes);
+    let blanks = whitespace_length(bytes);
     if blanks == 0 {
         return Number::Bad;
     }
@@ -75,19 +117,17 @@ fn finish(file: &[u8], w: u32, h: u32, largest: u32, at: usize) -> Header
     if file.len() <= at {
         return Header::Bad;
     }
-    if !is_white(file[at]) {
+    let last = file[at];
+    if !is_white(last) {
         return Header::Bad;
     }
-    Header::Good {
-        w,
-        h,
-        start: at + 1,
-    }
+    let start = at + 1;
+    Header::Good { w, h, start }
 }
 
-// The header of a file.
+// The header of a file, as the grammar has it.
 pub fn parse(file: &[u8]) -> Header
-    ensures { λ r. ⌜ r ≡ headerOf (now (file .entry)) ⌝ }
+    ensures { λ r. ⌜ Tells WhiteOrComment (now (file .entry)) r ⌝ }
 {
     if !is_magic(file) {
         return Header::Bad;

@@ -1,2 +1,3 @@
--- Laws of the answers of a refused file.
+-- Laws of the answers of a refused file, and of the readers by the grammar.
 pub mod ReadAnswerLaws
+pub mod ReadsLaws

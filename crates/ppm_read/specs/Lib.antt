@@ -1,2 +1,3 @@
 -- P6 files: how they are read.
 pub mod P6
+pub mod Reads

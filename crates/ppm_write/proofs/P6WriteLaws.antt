@@ -14,7 +14,7 @@ use Rattle.rules.specs.Refusals.{_when_, _orElse_, badSize, wrongLength, short,
 use Rattle.rules.specs.Accepted.{SizeOk}
 use Rattle.rules.proofs.RefusalLaws.{when-no, orElse-no, length-is, size-ok}
 use Rattle.ppm_write.specs.declared.FileWritten.{FileWritten}
-use Rattle.p6_header.specs.P6Header.{magic}
+use Rattle.p6_header.specs.P6Grammar.{magic}
 use Rattle.ppm_write.specs.P6Writes.{header, writeRefusal, fileWritten}
 
 pub length-header : (w h : ℕ) → length (header w h) ≡ 2 + length (digits w) + length (digits h) + length (digits 255) + 4

@@ -6,7 +6,7 @@ use lib.ListN.{length}
 use Rattle.text.specs.Digits.{digits}
 use Rattle.rules.specs.Refusals.{_when_, _orElse_, badSize, wrongLength, short, rasterLength}
 use Rattle.rules.specs.Answers.{bufferAfter}
-use Rattle.p6_header.specs.P6Header.{magic}
+use Rattle.p6_header.specs.P6Grammar.{magic}
 use Rattle.ppm_write.specs.declared.FileWritten.{FileWritten}
 
 -- The writer: "one byte 10 for each whitespace but a 32 between width and height, no leading zeros".

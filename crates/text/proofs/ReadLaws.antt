@@ -1,5 +1,5 @@
 -- Laws of reading: the bytes that pass a test, and the number that digits spell.
-use mathlib.Core.Path.{_≡_, refl}
+use mathlib.Core.Path.{_≡_, refl, sym}
 use mathlib.Core.Bool.{Bool, true, false, _&&_, cond, false≢true}
 use mathlib.Core.List.{List, [], _∷_, _++_}
 use Prim.Native.Nat.{ℕ, zero, suc, _+_, _*_, _-_, _^_, _≤_, _<_}
@@ -106,6 +106,8 @@ pub record Spelled (l : List ℕ) (value count : ℕ) : Type 0 where
   pub least : 1 ≤ count
   pub most : count ≤ 9
   pub within : count ≤ length l
+  pub digits : count ≡ leading isDigit l
+  pub is : value ≡ decimal 0 (take count l)
 
 pub read-ok : (l : List ℕ) (value count : ℕ) → numberOf l ≡ Number.Read value count → Spelled l value count
 unfolding numberOf
@@ -122,6 +124,13 @@ read-ok l value count e = split (leb 1 n) (leb n 9) refl refl e
         let high = leb-true n 9 b in
         let power : 10 ^ n ≤ 10 ^ 9 = pow-le-pow-right {n = 10} (omega arith) {i = n} {j = 9} high in
         let bound = decimal-bound l n (omega arith) in
-        record { small = omega arith; least = omega arith; most = omega arith; within = let i = leading-in isDigit l in omega arith }
+        record {
+          small = omega arith;
+          least = omega arith;
+          most = omega arith;
+          within = let i = leading-in isDigit l in omega arith;
+          digits = sym same;
+          is = rw (← same) (sym spelled);
+        }
     split true false a b e = absurd (let z : _≡_ {A = ℕ} 0 1 = cc in omega arith)
     split false u a b e = absurd (let z : _≡_ {A = ℕ} 0 1 = cc in omega arith)

@@ -36,7 +36,7 @@ use vectors_data::data::signed;
 use vectors_data::data::size;
 use vectors_data::tally;
 
-const DATA_MEMORY: usize = 400000;
+const DATA_MEMORY: usize = 490000;
 
 const BYTE_MEMORY: usize = 16384;
 

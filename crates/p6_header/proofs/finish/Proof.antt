@@ -2,7 +2,7 @@
 use mathlib.Core.Path.{sym, _∙_}
 use borrow.Author.Tests.{eq-eqb, ne-eqb, not-true, not-false}
 use Rattle.p6_header.specs.P6Header.{ending}
-use Rattle.p6_header.proofs.HeaderLaws.{white-past}
+use Rattle.p6_header.proofs.BlankLaws.{white-past}
 use borrow.Author.Needs.{needs}
 use Rattle.p6_header.proofs.finish.Statement.{statement}
 use Rattle.p6_header.proofs.finish.Tie as tie
@@ -17,8 +17,8 @@ returns-2 c =
     let a = c .before .before .before .args in
     simp (eq-eqb (a .largest) 255 (c .before .if1 .left), white-past (a .file .now) (a .at) (c .if2 .taken))
 
-shared-slice-read-is-white : tie.Need-shared-slice-read-is-white
-shared-slice-read-is-white c = search needs
+shared-slice-read-last : tie.Need-shared-slice-read-last
+shared-slice-read-last c = search needs
 
 is-white-requires : tie.Need-is-white-requires
 is-white-requires c κs = search needs
@@ -30,8 +30,8 @@ returns-3 c =
     let a = else2 .before .before .before .args in
     simp (eq-eqb (a .largest) 255 (else2 .before .if1 .left), sym (c .before .is-white .ensures) ∙ not-true _ (c .if3 .taken))
 
-add-t7 : tie.Need-add-t7
-add-t7 c = search needs
+add-start : tie.Need-add-start
+add-start c = search needs
 
 returns-4 : tie.Need-returns-4
 unfolding ending
@@ -46,8 +46,8 @@ finish-spec =
     (tie.spec
     returns
     returns-2
-    shared-slice-read-is-white
+    shared-slice-read-last
     is-white-requires
     returns-3
-    add-t7
+    add-start
     returns-4)

@@ -1,6 +1,6 @@
 -- Each test decides once those before it have failed.
 use borrow.Author.Tests.{eq-eqb, ne-eqb}
-use Rattle.p6_header.specs.P6Header.{isWhite}
+use Rattle.p6_header.specs.P6Grammar.{isWhite}
 use Rattle.p6_header.proofs.is_white.Statement.{statement}
 use Rattle.p6_header.proofs.is_white.Tie as tie
 

@@ -5,9 +5,11 @@ use mathlib.Core.List.{List}
 use Prim.Native.Nat.{ℕ, _+_}
 use borrow.Author.Tests.{not-true, not-false}
 use Rattle.text.specs.declared.Number.{Number}
+use Rattle.p6_header.specs.declared.Header.{Header}
 use Rattle.p6_header.specs.P6Header.{isMagic, after, fields, headerOf}
 use Rattle.p6_header.proofs.FieldLaws.{field-told, FieldAt, field-at}
 use Rattle.p6_header.proofs.HeaderLaws.{magic-long}
+use Rattle.p6_header.proofs.GrammarLaws.{tells-found}
 use native.Mathlib.Omega.{arith}
 use borrow.Author.Needs.{needs}
 use Rattle.p6_header.proofs.parse.Statement.{statement}
@@ -49,7 +51,7 @@ is-magic-requires c κs = search needs
 
 returns : tie.Need-returns
 unfolding headerOf
-returns c = rw (sym (c .before .is-magic .ensures) ∙ not-true _ (c .if1 .taken))
+returns c = tells-found _ Header.Bad (rw (sym (c .before .is-magic .ensures) ∙ not-true _ (c .if1 .taken)))
 
 sub-read-field : tie.Need-sub-read-field
 sub-read-field c = omega (arith, magic-long _ (marked c))
@@ -74,7 +76,7 @@ unfolding headerOf fields after
 returns-2 c =
     let n = c .before .before in
     let e = n .before .before in
-    rw (marked e, field-told (fileOf e) 2 Number.Bad _ (n .read-field .ensures) (c .enum-told .given .1))
+    tells-found _ Header.Bad (rw (marked e, field-told (fileOf e) 2 Number.Bad _ (n .read-field .ensures) (c .enum-told .given .1)))
 
 add-at1 : tie.Need-add-at1
 add-at1 c = omega (arith, first c)
@@ -103,7 +105,7 @@ returns-3 c =
     let n = c .before .before in
     let k = n .before .before in
     let e = mark k in
-    rw (marked e, first k .is, field-told (fileOf e) (place1 k) Number.Bad _ (n .read-field2 .ensures) (c .enum-told2 .given .1))
+    tells-found _ Header.Bad (rw (marked e, first k .is, field-told (fileOf e) (place1 k) Number.Bad _ (n .read-field2 .ensures) (c .enum-told2 .given .1)))
 
 add-at2 : tie.Need-add-at2
 add-at2 c = omega (arith, second c)
@@ -132,7 +134,7 @@ returns-4 c =
     let n = c .before .before in
     let k = n .before .before in
     let e = mark (told1 k) in
-    rw (marked e, first (told1 k) .is, second k .is, field-told (fileOf e) (place2 k) Number.Bad _ (n .read-field3 .ensures) (c .enum-told3 .given .1))
+    tells-found _ Header.Bad (rw (marked e, first (told1 k) .is, second k .is, field-told (fileOf e) (place2 k) Number.Bad _ (n .read-field3 .ensures) (c .enum-told3 .given .1)))
 
 add-finish : tie.Need-add-finish
 add-finish c = omega (arith, third c)
@@ -144,7 +146,8 @@ returns-5 : tie.Need-returns-5
 unfolding headerOf fields after
 returns-5 c =
     let k = told2 (c .before) in
-    rw (c .finish .ensures, marked (mark (told1 k)), first (told1 k) .is, second k .is, third (c .before) .is)
+    tells-found (fileOf (mark (told1 k))) (c .finish .result)
+    (rw (c .finish .ensures, marked (mark (told1 k)), first (told1 k) .is, second k .is, third (c .before) .is))
 
 pub parse-spec : {M : Type 1} → statement M
 parse-spec =

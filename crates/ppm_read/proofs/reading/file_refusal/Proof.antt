@@ -5,6 +5,7 @@ use Rattle.rules.proofs.RefusalLaws.{orElse-none, size-known}
 use Rattle.p6_header.specs.declared.Header.{Header}
 use Rattle.p6_header.specs.P6Header.{headerOf}
 use Rattle.ppm_read.specs.P6.{headerRefusal, p6Refusal}
+use Rattle.p6_header.proofs.GrammarLaws.{by-grammar}
 use Rattle.p6_header.proofs.HeaderLaws.{good-within}
 use native.Mathlib.Omega.{arith}
 use borrow.Author.Needs.{needs}
@@ -14,7 +15,7 @@ use Rattle.ppm_read.proofs.reading.file_refusal.Tie as tie
 good : (c : tie.After-known-told)
     → let v = c .before .w .given .0 in
     headerOf (c .before .before .before .before .before .args .file .now) ≡ Header.Good (v .0) (v .1 .0) (v .1 .1 .0)
-good c = sym (c .before .before .before .parse .ensures) ∙ c .before .w .given .1
+good c = by-grammar .only _ _ (c .before .before .before .parse .ensures) ∙ c .before .w .given .1
 
 sized : (c : tie.Else1) → let v = c .before .before .before .w .given .0 in SizeOk (v .0) (v .1 .0)
 sized c = size-known _ _ _ (c .before .bad-size .ensures) (c .if1 .left)
@@ -30,7 +31,7 @@ enum-told c = search needs
 
 returns : tie.Need-returns
 unfolding p6Refusal headerRefusal
-returns c = rw (sym (c .before .before .parse .ensures) ∙ c .enum-told .given .1)
+returns c = rw (by-grammar .only _ _ (c .before .before .parse .ensures) ∙ c .enum-told .given .1)
 
 cast-w : tie.Need-cast-w
 cast-w c = search needs

@@ -1,6 +1,7 @@
 -- The header that was parsed decides.
-use mathlib.Core.Path.{sym, _∙_}
+use mathlib.Core.Path.{_∙_}
 use Rattle.ppm_read.specs.P6.{sizeIn}
+use Rattle.p6_header.proofs.GrammarLaws.{by-grammar}
 use borrow.Author.Needs.{needs}
 use Rattle.ppm_read.proofs.reading.frame_size.Statement.{statement}
 use Rattle.ppm_read.proofs.reading.frame_size.Tie as tie
@@ -16,7 +17,7 @@ enum-told c = search needs
 
 returns : tie.Need-returns
 unfolding sizeIn
-returns c = rw (sym (c .before .before .parse .ensures) ∙ c .enum-told .given .1)
+returns c = rw (by-grammar .only _ _ (c .before .before .parse .ensures) ∙ c .enum-told .given .1)
 
 cast-t5 : tie.Need-cast-t5
 cast-t5 c = search needs
@@ -26,7 +27,7 @@ cast-t6 c = search needs
 
 returns-2 : tie.Need-returns-2
 unfolding sizeIn
-returns-2 c = rw (sym (c .before .before .before .parse .ensures) ∙ c .before .w .given .1)
+returns-2 c = rw (by-grammar .only _ _ (c .before .before .before .parse .ensures) ∙ c .before .w .given .1)
 
 pub frame-size-spec : {M : Type 1} → statement M
 frame-size-spec =

@@ -2,7 +2,7 @@
 use mathlib.Core.List.{[], _∷_, _++_}
 use lib.ListN.{length}
 use Rattle.text.specs.Digits.{digits}
-use Rattle.p6_header.specs.P6Header.{magic}
+use Rattle.p6_header.specs.P6Grammar.{magic}
 use Rattle.ppm_write.proofs.P6WriteLaws.{upTo2, upTo3, upTo4, upTo5, header-pieces, Begun, begun-more, begun-room, PiecesFit, pieces-fit}
 use native.Mathlib.Omega.{arith}
 use borrow.Author.Needs.{needs}
