@@ -242,8 +242,8 @@ uint32_t mtb_p6_size(const uint8_t *file, size_t file_len, uint32_t *w, uint32_t
 uint32_t mtb_p6_raster(const uint8_t *file, size_t file_len, size_t *start, size_t *length);
 
 /*
- * A raster written as a file, with no comment in it; *written is the number of its bytes: 3*w*h and a
- * header of 11 to 17. Refusals: 2, 9, 10.
+ * A raster written as a file, with no comment in the header; *written is the number of its bytes: 3*w*h
+ * and a header of 11 to 17. Refusals: 2, 9, 10.
  */
 uint32_t mtb_p6_write(uint32_t w, uint32_t h,
                       const uint8_t *raster, size_t raster_len,
