@@ -6,17 +6,13 @@ use Prim.Native.Nat.{ℕ, _+_, _-_, _≤_}
 use native.Mathlib.Omega.{arith}
 use lib.Dec.{leb}
 use lib.ListN.{length, take, drop, length-drop}
-use lib.Seq.{take-all}
-use borrow.Author.Tests.{le-leb}
+use borrow.Author.Tests.{le-leb, leb-true}
 use Rattle.text.specs.declared.Number.{Number}
 use Rattle.text.specs.Digits.{numberOf}
 use Rattle.text.proofs.ReadLaws.{read-ok}
-use Rattle.p6_header.specs.P6Header.{whitespaceLength, placed, fieldOf}
-use Rattle.p6_header.proofs.BlankLaws.{whitespace-in}
-
--- the part of a list from a place on, as a slice of the rest's length
-pub rest-whole : (l : List ℕ) (n : ℕ) → take (length l - n) (drop n l) ≡ drop n l
-rest-whole l n = take-all (length l - n) (drop n l) (let a = length-drop n l in omega arith)
+use Rattle.p6_whitespace.specs.Blanks.{whitespaceLength}
+use Rattle.p6_whitespace.proofs.BlankLaws.{rest-whole, whitespace-in}
+use Rattle.p6_header.specs.P6Header.{placed, fieldOf}
 
 -- The three ways of reading a field.
 pub field-none : (l : List ℕ) → whitespaceLength l ≡ 0 → Number.Bad ≡ fieldOf l
@@ -36,24 +32,36 @@ pub field-read : (l : List ℕ) (blanks value count : ℕ) → blanks ≡ whites
 unfolding fieldOf placed
 field-read l blanks value count e k b = rw (← e, b, le-leb 1 blanks k)
 
--- A field that was read lies in the bytes.
-field-in : (l : List ℕ) (value count : ℕ) → fieldOf l ≡ Number.Read value count → count ≤ length l
+-- A field that was read is whitespace and a number, and lies in the bytes.
+pub record FieldParts (l : List ℕ) (value count : ℕ) : Type 0 where
+  pub digits : ℕ
+  pub some : 1 ≤ whitespaceLength l
+  pub number : numberOf (drop (whitespaceLength l) l) ≡ Number.Read value digits
+  pub whole : whitespaceLength l + digits ≡ count
+
+pub field-parts : (l : List ℕ) (value count : ℕ) → fieldOf l ≡ Number.Read value count → FieldParts l value count
 unfolding fieldOf placed
-field-in l value count e = split (numberOf (drop n l)) refl e
+field-parts l value count e = split (numberOf (drop n l)) refl e
   where
     n : ℕ
     n = whitespaceLength l
 
-    read : (t : Bool) (v k : ℕ) → numberOf (drop n l) ≡ Number.Read v k → cond t (Number.Read v (n + k)) Number.Bad ≡ Number.Read value count → count ≤ length l
-    read true v k a e =
-        let s = read-ok (drop n l) v k a in
-        let y : n + k ≡ count = cc in
-        omega (arith, length-drop n l, whitespace-in l)
-    read false v k a e = absurd (let z : _≡_ {A = ℕ} 0 1 = cc in omega arith)
+    read : (t : Bool) (v k : ℕ) → leb 1 n ≡ t → numberOf (drop n l) ≡ Number.Read v k → cond t (Number.Read v (n + k)) Number.Bad ≡ Number.Read value count
+        → FieldParts l value count
+    read true v k m a e =
+        let same : v ≡ value = cc in
+        record { digits = k; some = leb-true 1 n m; number = rw (← same) a; whole = cc }
+    read false v k m a e = absurd (let z : _≡_ {A = ℕ} 0 1 = cc in omega arith)
 
-    split : (m : Number) → numberOf (drop n l) ≡ m → placed n m ≡ Number.Read value count → count ≤ length l
+    split : (m : Number) → numberOf (drop n l) ≡ m → placed n m ≡ Number.Read value count → FieldParts l value count
     split Number.Bad a e = absurd (let z : _≡_ {A = ℕ} 0 1 = cc in omega arith)
-    split (Number.Read v k) a e = read (leb 1 n) v k a e
+    split (Number.Read v k) a e = read (leb 1 n) v k refl a e
+
+field-in : (l : List ℕ) (value count : ℕ) → fieldOf l ≡ Number.Read value count → count ≤ length l
+field-in l value count e =
+    let f = field-parts l value count e in
+    let s = read-ok (drop (whitespaceLength l) l) value (f .digits) (f .number) in
+    omega (arith, length-drop (whitespaceLength l) l, whitespace-in l)
 
 -- A field at place `at` of a file, where the slice lent to the field's reader is the rest of the file.
 pub field-told : (file : List ℕ) (at : ℕ) (n r : Number) → r ≡ fieldOf (take (length file - at) (drop at file)) → r ≡ n → fieldOf (drop at file) ≡ n

@@ -15,10 +15,11 @@ use Rattle.text.specs.declared.Number.{Number}
 use Rattle.text.specs.Digits.{isDigit, leading}
 use Rattle.text.proofs.ReadLaws.{leading-none}
 use Rattle.p6_header.specs.declared.Header.{Header}
-use Rattle.p6_header.specs.P6Grammar.{Every, magic, isWhite, White, hash, WhiteOrComment, Whitespace, Field, P6}
+use Rattle.p6_whitespace.specs.Whitespace.{Every, isWhite, White, hash, WhiteOrComment, Whitespace}
+use Rattle.p6_header.specs.P6Grammar.{magic, Field, P6}
 use Rattle.p6_header.specs.P6Header.{isMagic, fieldOf, after, ending, fields, headerOf, startIn}
 use Rattle.p6_header.specs.ByGrammar.{Tells, ByGrammar, noHash, AsBefore}
-use Rattle.p6_header.proofs.BlankLaws.{white-within, whitespace-plain}
+use Rattle.p6_whitespace.proofs.BlankLaws.{white-within, whitespace-plain}
 use Rattle.p6_header.proofs.PieceLaws.{white-not-digit, field-first, field-found, field-spelled}
 use Rattle.p6_header.proofs.HeaderLaws.{magic-begins}
 

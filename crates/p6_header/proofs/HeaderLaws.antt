@@ -9,9 +9,10 @@ use lib.ListN.{length, getD, drop}
 use borrow.Author.Tests.{le-leb, leb-true}
 use Rattle.text.specs.declared.Number.{Number}
 use Rattle.p6_header.specs.declared.Header.{Header}
-use Rattle.p6_header.specs.P6Grammar.{magic, isWhite}
+use Rattle.p6_whitespace.specs.Whitespace.{isWhite}
+use Rattle.p6_header.specs.P6Grammar.{magic}
 use Rattle.p6_header.specs.P6Header.{isMagic, fieldOf, after, ending, fields, headerOf, startIn}
-use Rattle.p6_header.proofs.BlankLaws.{white-within}
+use Rattle.p6_whitespace.proofs.BlankLaws.{white-within}
 
 pub magic-long : (file : List ℕ) → isMagic file ≡ true → 2 ≤ length file
 unfolding isMagic

@@ -1,5 +1,4 @@
--- Laws of P6 files' headers, blank by blank and field by field, and of the grammar.
-pub mod BlankLaws
+-- Laws of P6 files' headers, field by field, and of the grammar.
 pub mod ExampleLaws
 pub mod FieldLaws
 pub mod HeaderLaws

@@ -6,9 +6,11 @@ use Prim.Native.Nat.{ℕ}
 use lib.Dec.{eqb}
 use lib.ListN.{getD, take}
 use Rattle.text.specs.Digits.{leading}
+use Rattle.p6_whitespace.specs.Whitespace.{Every, isWhite, White, hash, WhiteOrComment}
+use Rattle.p6_whitespace.specs.Blanks.{whitespaceLength}
 use Rattle.p6_header.specs.declared.Header.{Header}
-use Rattle.p6_header.specs.P6Grammar.{Every, isWhite, White, hash, WhiteOrComment, P6}
-use Rattle.p6_header.specs.P6Header.{whitespaceLength, headerOf, startIn}
+use Rattle.p6_header.specs.P6Grammar.{P6}
+use Rattle.p6_header.specs.P6Header.{headerOf, startIn}
 
 -- what a file tells by the grammar with these blanks: a size and where the raster begins, or that it has no header
 abbrev pub Tells : (List ℕ → Type 0) → List ℕ → Header → Type 0

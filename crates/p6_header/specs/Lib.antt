@@ -2,4 +2,4 @@
 pub mod P6Grammar
 pub mod P6Header
 pub mod ByGrammar
-pub mod Examples
+pub mod HeaderExamples

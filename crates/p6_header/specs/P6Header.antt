@@ -1,33 +1,17 @@
 -- The header that is found in a file, piece by piece. That these are the pieces of the grammar, no more and no less, is `ByGrammar`.
 use mathlib.Core.Bool.{Bool, _&&_, cond}
 use mathlib.Core.List.{List}
-use Prim.Native.Nat.{ℕ, zero, suc, _+_}
-use lib.Dec.{eqb, ltb, leb}
+use Prim.Native.Nat.{ℕ, _+_}
+use lib.Dec.{eqb, leb}
 use lib.ListN.{length, getD, drop}
 use Rattle.text.specs.declared.Number.{Number}
-use Rattle.text.specs.Digits.{leading, numberOf}
+use Rattle.text.specs.Digits.{numberOf}
+use Rattle.p6_whitespace.specs.Whitespace.{isWhite}
+use Rattle.p6_whitespace.specs.Blanks.{whitespaceLength}
 use Rattle.p6_header.specs.declared.Header.{Header}
-use Rattle.p6_header.specs.P6Grammar.{isWhite, hash, inLine}
 
 unfoldable pub isMagic : List ℕ → Bool
 isMagic file = leb 2 (length file) && (eqb (getD file 0 0) 0x50 && eqb (getD file 1 0) 0x36)
-
--- How many bytes a comment takes, "through the next byte 10 or 13"; 0 where it is "cut off by the end of the file".
-unfoldable pub commentLength : List ℕ → ℕ
-commentLength l = let n = leading inLine l in cond (ltb n (length l)) (n + 1) 0
-
--- how many bytes the first blank takes, a byte of whitespace or a comment; 0 where the bytes begin with none
-unfoldable pub blankLength : List ℕ → ℕ
-blankLength l = cond (isWhite (getD l 0 0)) 1 (cond (eqb (getD l 0 0) hash) (commentLength l) 0)
-
--- how many bytes the first k blanks take, or as many as there are
-unfoldable pub blanksLength : ℕ → List ℕ → ℕ
-blanksLength zero l = 0
-blanksLength (suc k) l = let n = blankLength l in cond (leb 1 n) (n + blanksLength k (drop n l)) 0
-
--- how many bytes all blanks at the beginning take: there are no more of them than bytes
-unfoldable pub whitespaceLength : List ℕ → ℕ
-whitespaceLength l = blanksLength (length l) l
 
 -- whitespace and then a number, at the beginning of some bytes: the number, and how many bytes both take
 unfoldable pub placed : ℕ → Number → Number

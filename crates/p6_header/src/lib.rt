@@ -1,9 +1,11 @@
 // P6 headers read: the first bytes of a file, field by field.
 
+use p6_whitespace::is_white;
+use p6_whitespace::whitespace_length;
 use text::Number;
 ghost use mathlib.Core.Path.{_≡_};
-ghost use Rattle.p6_header.specs.P6Grammar.{isWhite, endsLine, WhiteOrComment};
-ghost use Rattle.p6_header.specs.P6Header.{isMagic, commentLength, blankLength, whitespaceLength, fieldOf, ending};
+ghost use Rattle.p6_whitespace.specs.Whitespace.{WhiteOrComment};
+ghost use Rattle.p6_header.specs.P6Header.{isMagic, fieldOf, ending};
 ghost use Rattle.p6_header.specs.ByGrammar.{Tells};
 
 // What a file's first bytes say: the size, and where the raster begins.
@@ -14,9 +16,6 @@ pub enum Header {
 
 // The bytes that every P6 file begins with.
 pub const MAGIC: [u8; 2] = *b"P6";
-
-// The byte that begins a comment.
-const HASH: u8 = b'#';
 
 // The largest value of a sample, the only one that is read and written.
 pub const LARGEST: u32 = 255;
@@ -31,63 +30,6 @@ fn is_magic(file: &[u8]) -> bool
         return false;
     }
     file[1] == MAGIC[1]
-}
-
-fn is_white(b: u8) -> bool
-    ensures { λ r. ⌜ r ≡ isWhite b ⌝ }
-{
-    b == 9 || (b == 10 || (b == 13 || b == 32))
-}
-
-fn ends_line(b: u8) -> bool
-    ensures { λ r. ⌜ r ≡ endsLine b ⌝ }
-{
-    b == 10 || b == 13
-}
-
-// How many bytes a comment takes, the one that ends its line included.
-fn comment_length(bytes: &[u8]) -> usize
-    ensures { λ r. ⌜ r ≡ commentLength (now (bytes .entry)) ⌝ }
-{
-    let mut n: usize = 0;
-    while n < bytes.len() {
-        if ends_line(bytes[n]) {
-            return n + 1;
-        }
-        n += 1;
-    }
-    0 // the file cuts it off
-}
-
-// How many bytes the first blank takes, a byte of whitespace or a comment; 0 where the bytes begin with none.
-fn blank_length(bytes: &[u8]) -> usize
-    ensures { λ r. ⌜ r ≡ blankLength (now (bytes .entry)) ⌝ }
-{
-    if bytes.len() == 0 {
-        return 0;
-    }
-    if is_white(bytes[0]) {
-        return 1;
-    }
-    if bytes[0] != HASH {
-        return 0;
-    }
-    comment_length(bytes)
-}
-
-// How many bytes all blanks at the beginning take.
-fn whitespace_length(bytes: &[u8]) -> usize
-    ensures { λ r. ⌜ r ≡ whitespaceLength (now (bytes .entry)) ⌝ }
-{
-    let mut n: usize = 0;
-    while n < bytes.len() {
-        let blank = blank_length(&bytes[n..]);
-        if blank == 0 {
-            return n;
-        }
-        n += blank;
-    }
-    n
 }
 
 // Whitespace and then a number, at the beginning of some bytes.

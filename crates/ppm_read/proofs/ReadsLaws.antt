@@ -8,8 +8,8 @@ use lib.ListN.{length, drop, length-drop}
 use Rattle.rules.specs.Refusals.{_when_, badSize, wrongLength, rasterLength}
 use Rattle.rules.specs.Parts.{partOr}
 use Rattle.rules.proofs.RefusalLaws.{when-no, orElse-no, length-is, size-ok}
+use Rattle.p6_whitespace.specs.Whitespace.{WhiteOrComment}
 use Rattle.p6_header.specs.declared.Header.{Header}
-use Rattle.p6_header.specs.P6Grammar.{WhiteOrComment}
 use Rattle.p6_header.specs.ByGrammar.{Tells}
 use Rattle.p6_header.specs.P6Header.{headerOf, startIn}
 use Rattle.p6_header.proofs.GrammarLaws.{by-grammar, as-before}

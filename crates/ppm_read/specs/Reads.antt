@@ -6,8 +6,9 @@ use Prim.Native.Nat.{ℕ, _≤_}
 use lib.ListN.{length, drop}
 use Rattle.rules.specs.Refusals.{rasterLength}
 use Rattle.rules.specs.Parts.{Place}
+use Rattle.p6_whitespace.specs.Whitespace.{White, WhiteOrComment}
 use Rattle.p6_header.specs.declared.Header.{Header}
-use Rattle.p6_header.specs.P6Grammar.{White, WhiteOrComment, P6}
+use Rattle.p6_header.specs.P6Grammar.{P6}
 use Rattle.p6_header.specs.P6Header.{headerOf, startIn}
 use Rattle.p6_header.specs.ByGrammar.{Tells}
 use Rattle.ppm_read.specs.declared.SizeRead.{SizeRead}

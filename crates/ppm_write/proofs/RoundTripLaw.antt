@@ -11,8 +11,9 @@ use Rattle.text.specs.Digits.{digits}
 use Rattle.text.proofs.ReadLaws.{leading-nil}
 use Rattle.text.proofs.DigitLaws.{read-digits}
 use Rattle.rules.specs.Refusals.{rasterLength}
+use Rattle.p6_whitespace.specs.Whitespace.{isWhite, White, Whitespace}
 use Rattle.p6_header.specs.declared.Header.{Header}
-use Rattle.p6_header.specs.P6Grammar.{magic, isWhite, White, Whitespace, Spells, Field}
+use Rattle.p6_header.specs.P6Grammar.{magic, Spells, Field}
 use Rattle.p6_header.proofs.PieceLaws.{number-spelled}
 use Rattle.ppm_read.specs.P6.{headerRefusal}
 use Rattle.ppm_read.specs.Reads.{Answered}

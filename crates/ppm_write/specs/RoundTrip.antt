@@ -4,7 +4,8 @@ use mathlib.Core.List.{List}
 use Prim.Native.Nat.{ℕ}
 use lib.ListN.{length, take}
 use Rattle.ppm_read.specs.declared.SizeRead.{SizeRead}
-use Rattle.p6_header.specs.P6Grammar.{White, P6}
+use Rattle.p6_whitespace.specs.Whitespace.{White}
+use Rattle.p6_header.specs.P6Grammar.{P6}
 use Rattle.ppm_read.specs.P6.{sizeAnswer, rasterOf}
 use Rattle.ppm_write.specs.P6Writes.{header, writeRefusal, p6File, writeOut}
 

@@ -7,8 +7,9 @@ use Rattle.rules.specs.Refusals.{badSide, badSize, badHalvings, tooSmall, badTo
 use Rattle.rules.specs.Examples.{firstRows, secondRows, printedResult, aligned}
 use Rattle.rules.proofs.ExampleLaws.{printed}
 use Rattle.text.specs.Digits.{isDigit, leading, decimal, numberOf, lastDigits, digits}
-use Rattle.p6_header.specs.P6Grammar.{isWhite, endsLine}
-use Rattle.p6_header.specs.P6Header.{isMagic, commentLength, blankLength, blanksLength, whitespaceLength, placed, fieldOf, after, ending, fields, headerOf, startIn}
+use Rattle.p6_whitespace.specs.Whitespace.{isWhite, endsLine}
+use Rattle.p6_whitespace.specs.Blanks.{commentLength, blankLength, blanksLength, whitespaceLength}
+use Rattle.p6_header.specs.P6Header.{isMagic, placed, fieldOf, after, ending, fields, headerOf, startIn}
 use Rattle.ppm_read.specs.P6.{headerRefusal, p6Refusal, sizeIn}
 use Rattle.settings_line.specs.SettingsLine.{lineOf, spaced, last, numbersOf, settingsOf}
 use Rattle.output_lines.specs.Lines.{signed, countsText, levelsText, alignedText}

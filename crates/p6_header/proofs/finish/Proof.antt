@@ -2,7 +2,7 @@
 use mathlib.Core.Path.{sym, _∙_}
 use borrow.Author.Tests.{eq-eqb, ne-eqb, not-true, not-false}
 use Rattle.p6_header.specs.P6Header.{ending}
-use Rattle.p6_header.proofs.BlankLaws.{white-past}
+use Rattle.p6_whitespace.proofs.BlankLaws.{white-past}
 use borrow.Author.Needs.{needs}
 use Rattle.p6_header.proofs.finish.Statement.{statement}
 use Rattle.p6_header.proofs.finish.Tie as tie

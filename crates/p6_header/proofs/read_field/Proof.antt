@@ -4,8 +4,8 @@ use lib.ListN.{drop}
 use Rattle.text.specs.declared.Number.{Number}
 use Rattle.text.specs.Digits.{numberOf}
 use Rattle.text.proofs.ReadLaws.{read-ok}
-use Rattle.p6_header.proofs.BlankLaws.{whitespace-in}
-use Rattle.p6_header.proofs.FieldLaws.{rest-whole, field-none, field-bad, field-read}
+use Rattle.p6_whitespace.proofs.BlankLaws.{rest-whole, whitespace-in}
+use Rattle.p6_header.proofs.FieldLaws.{field-none, field-bad, field-read}
 use native.Mathlib.Omega.{arith}
 use borrow.Author.Needs.{needs}
 use Rattle.p6_header.proofs.read_field.Statement.{statement}

@@ -2,7 +2,7 @@
 use mathlib.Core.Path.{sym, ap, _∙_}
 use Prim.Native.Nat.{ℕ}
 use Rattle.rules.specs.Parts.{placeFrom}
-use Rattle.p6_header.proofs.FieldLaws.{rest-whole}
+use Rattle.p6_whitespace.proofs.BlankLaws.{rest-whole}
 use Rattle.p6_header.proofs.HeaderLaws.{start-within}
 use Rattle.ppm_read.proofs.ReadAnswerLaws.{part-refused}
 use native.Mathlib.Omega.{arith}

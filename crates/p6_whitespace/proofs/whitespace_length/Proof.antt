@@ -3,13 +3,13 @@ use mathlib.Core.Path.{_≡_, sym, ap, _∙_}
 use Prim.Native.Nat.{_+_, _-_, _≤_}
 use lib.ListN.{length, drop, length-drop}
 use lib.Seq.{drop-drop}
-use Rattle.p6_header.specs.P6Header.{blankLength, whitespaceLength}
-use Rattle.p6_header.proofs.BlankLaws.{blank-in, blank-past, whitespace-on, whitespace-off}
-use Rattle.p6_header.proofs.FieldLaws.{rest-whole}
+use Rattle.p6_whitespace.specs.Blanks.{blankLength, whitespaceLength}
+use Rattle.p6_whitespace.proofs.BlankLaws.{blank-in, blank-past, whitespace-on, whitespace-off}
+use Rattle.p6_whitespace.proofs.BlankLaws.{rest-whole}
 use native.Mathlib.Omega.{arith}
 use borrow.Author.Needs.{needs}
-use Rattle.p6_header.proofs.whitespace_length.Statement.{statement}
-use Rattle.p6_header.proofs.whitespace_length.Tie as tie
+use Rattle.p6_whitespace.proofs.whitespace_length.Statement.{statement}
+use Rattle.p6_whitespace.proofs.whitespace_length.Tie as tie
 
 abbrev Inv-loop : tie.InvT-loop
 Inv-loop bytes n₀ n = (n ≤ length bytes) × (whitespaceLength bytes ≡ n + whitespaceLength (drop n bytes))

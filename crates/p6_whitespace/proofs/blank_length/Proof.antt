@@ -2,11 +2,11 @@
 use mathlib.Core.Path.{sym, _∙_}
 use lib.ListN.{getD}
 use borrow.Author.Tests.{eq-eqb, ne-eqb}
-use Rattle.p6_header.specs.P6Header.{blankLength}
-use Rattle.p6_header.proofs.BlankLaws.{blank-past}
+use Rattle.p6_whitespace.specs.Blanks.{blankLength}
+use Rattle.p6_whitespace.proofs.BlankLaws.{blank-past}
 use borrow.Author.Needs.{needs}
-use Rattle.p6_header.proofs.blank_length.Statement.{statement}
-use Rattle.p6_header.proofs.blank_length.Tie as tie
+use Rattle.p6_whitespace.proofs.blank_length.Statement.{statement}
+use Rattle.p6_whitespace.proofs.blank_length.Tie as tie
 
 returns : tie.Need-returns
 returns c = sym (blank-past (c .before .before .args .bytes .now) (c .if1 .taken))

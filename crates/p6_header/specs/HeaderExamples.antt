@@ -23,7 +23,7 @@ space = 32 ∷ []
 abbrev pub gain : List ℕ
 gain = 35 ∷ 32 ∷ 103 ∷ 97 ∷ 105 ∷ 110 ∷ 32 ∷ 49 ∷ 50 ∷ 48 ∷ []
 
-pub record Examples : Type 0 where
+pub record HeaderExamples : Type 0 where
   -- a line of its own, as capture programs write it
   pub line : headerOf (spelling (lf ++ gain ++ lf) space lf lf) ≡ Header.Good 2 1 22
   -- comments alone between the fields, whichever byte ends them

@@ -5,12 +5,12 @@ use Prim.Native.Nat.{_+_, _-_, _≤_}
 use lib.ListN.{length, drop}
 use Rattle.text.specs.Digits.{leading}
 use Rattle.text.proofs.ReadLaws.{leading-on, leading-off, leading-end}
-use Rattle.p6_header.specs.P6Grammar.{inLine}
-use Rattle.p6_header.proofs.BlankLaws.{comment-ended, comment-cut}
+use Rattle.p6_whitespace.specs.Whitespace.{inLine}
+use Rattle.p6_whitespace.proofs.BlankLaws.{comment-ended, comment-cut}
 use native.Mathlib.Omega.{arith}
 use borrow.Author.Needs.{needs}
-use Rattle.p6_header.proofs.comment_length.Statement.{statement}
-use Rattle.p6_header.proofs.comment_length.Tie as tie
+use Rattle.p6_whitespace.proofs.comment_length.Statement.{statement}
+use Rattle.p6_whitespace.proofs.comment_length.Tie as tie
 
 abbrev Inv-loop : tie.InvT-loop
 Inv-loop bytes n₀ n = (n ≤ length bytes) × (leading inLine bytes ≡ n + leading inLine (drop n bytes))

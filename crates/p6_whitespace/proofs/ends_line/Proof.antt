@@ -1,8 +1,8 @@
 -- The second test decides once the first one has failed.
 use borrow.Author.Tests.{eq-eqb, ne-eqb}
-use Rattle.p6_header.specs.P6Grammar.{endsLine}
-use Rattle.p6_header.proofs.ends_line.Statement.{statement}
-use Rattle.p6_header.proofs.ends_line.Tie as tie
+use Rattle.p6_whitespace.specs.Whitespace.{endsLine}
+use Rattle.p6_whitespace.proofs.ends_line.Statement.{statement}
+use Rattle.p6_whitespace.proofs.ends_line.Tie as tie
 
 returns : tie.Need-returns
 unfolding endsLine

@@ -1,0 +1,3 @@
+-- The whitespace of P6 headers: the grammar, and how long it is.
+pub mod Whitespace
+pub mod Blanks
