@@ -42,29 +42,62 @@ size_t follow_counts(const Answer &answer, const Order &order)
     return place;
 }
 
-Answer library_pair(decltype(mtb_pair) *call, const Order &order, const Settings &settings, const Raster &first,
-                    const Raster &second)
+// The work memory of the library's calls on frames of that size, which is kept for the next call.
+struct Memory {
+    std::vector<uint8_t> &grey;
+    std::vector<uint64_t> &words;
+};
+
+Memory memory_for(uint32_t w, uint32_t h, uint32_t s)
 {
-    uint32_t w = settings.w, h = settings.h, s = settings.s;
     static std::vector<uint8_t> grey;
     static std::vector<uint64_t> words;
     grey.resize(mtb_grey_needed(w, h, s));
     words.resize(mtb_words_needed(w, h, s));
+    return {grey, words};
+}
+
+void insist(const Settings &settings, uint32_t refusal)
+{
+    if (refusal == 0)
+        return;
+    std::fprintf(stderr, "accuracy: %d by %d, s = %d refused by %u\n", settings.w, settings.h, settings.s, refusal);
+    std::exit(1);
+}
+
+Answer library_pair(decltype(mtb_pair) *call, const Order &order, const Settings &settings, const Raster &first,
+                    const Raster &second)
+{
+    uint32_t w = settings.w, h = settings.h, s = settings.s;
+    Memory memory = memory_for(w, h, s);
     Answer answer;
     answer.counts.resize(order.size() * (s + 1));
     answer.compared.resize(answer.counts.size());
     int32_t dx = 0, dy = 0;
-    uint32_t refusal = call(w, h, s, settings.tolerance, settings.percentile, first.data(), first.size(),
-                            second.data(), second.size(), &dx, &dy, answer.counts.data(), answer.counts.size(),
-                            answer.compared.data(), answer.compared.size(), grey.data(), grey.size(), words.data(),
-                            words.size());
-    if (refusal != 0) {
-        std::fprintf(stderr, "accuracy: %u by %u, s = %u refused by %u\n", w, h, s, refusal);
-        std::exit(1);
-    }
+    insist(settings, call(w, h, s, settings.tolerance, settings.percentile, first.data(), first.size(), second.data(),
+                          second.size(), &dx, &dy, answer.counts.data(), answer.counts.size(), answer.compared.data(),
+                          answer.compared.size(), memory.grey.data(), memory.grey.size(), memory.words.data(),
+                          memory.words.size()));
     answer.offset = {dx, dy};
     answer.finest = follow_counts(answer, order);
     return answer;
+}
+
+// A quadrant cut out, 0 to 3; the right and the lower ones end where the frame does.
+Raster quadrant_of(const Settings &settings, const Raster &raster, size_t k)
+{
+    size_t w = settings.w, h = settings.h, left = k % 2 ? w - w / 2 : 0, top = k / 2 ? h - h / 2 : 0;
+    Raster out;
+    for (size_t y = top; y < top + h / 2; y++)
+        out.insert(out.end(), &raster[3 * (y * w + left)], &raster[3 * (y * w + left)] + 3 * (w / 2));
+    return out;
+}
+
+bool far_apart(const std::array<Move, 4> &moves)
+{
+    auto [left, right] = std::minmax_element(moves.begin(), moves.end(), [](Move a, Move b) { return a.dx < b.dx; });
+    auto [top, bottom] = std::minmax_element(moves.begin(), moves.end(), [](Move a, Move b) { return a.dy < b.dy; });
+    return right->dx - left->dx > 1 || bottom->dy - top->dy > 1;
 }
 
 }
@@ -77,6 +110,32 @@ Answer ward_pair(const Settings &settings, const Raster &first, const Raster &se
 Answer least_move_pair(const Settings &settings, const Raster &first, const Raster &second)
 {
     return library_pair(mtb_pair, least_move_order, settings, first, second);
+}
+
+Warning quadrants(const Settings &settings, const Raster &first, const Raster &second)
+{
+    uint32_t w = settings.w, h = settings.h, s = settings.s;
+    Memory memory = memory_for(w / 2, h / 2, s);
+    std::array<int32_t, 8> offsets{};
+    Warning warning{};
+    insist(settings, mtb_quadrants(w, h, s, settings.tolerance, settings.percentile, first.data(), first.size(),
+                                   second.data(), second.size(), offsets.data(), offsets.size(), &warning.turned,
+                                   memory.grey.data(), memory.grey.size(), memory.words.data(), memory.words.size()));
+    Settings of_quadrant = {settings.w / 2, settings.h / 2, settings.s, settings.tolerance, settings.percentile};
+    for (size_t k = 0; k < warning.offsets.size(); k++) {
+        warning.offsets[k] = {offsets[2 * k], offsets[2 * k + 1]};
+        Answer pair = least_move_pair(of_quadrant, quadrant_of(settings, first, k), quadrant_of(settings, second, k));
+        if (!(pair.offset == warning.offsets[k])) {
+            std::fprintf(stderr, "accuracy: quadrant %zu: %d %d, but %d %d cut out and aligned as a pair\n", k,
+                         warning.offsets[k].dx, warning.offsets[k].dy, pair.offset.dx, pair.offset.dy);
+            std::exit(1);
+        }
+    }
+    if (warning.turned != far_apart(warning.offsets)) {
+        std::fprintf(stderr, "accuracy: the warning does not follow from the four offsets\n");
+        std::exit(1);
+    }
+    return warning;
 }
 
 #ifdef WITH_OPENCV

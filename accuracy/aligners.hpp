@@ -1,6 +1,7 @@
 // The two aligners that are measured: the library, and OpenCV's AlignMTB where it is installed.
 #pragma once
 
+#include <array>
 #include <cstdint>
 #include <vector>
 
@@ -31,6 +32,17 @@ struct Answer {
 // least move. They end the program with a message when the library refuses: every pair here is meant to be accepted.
 Answer ward_pair(const Settings &settings, const Raster &first, const Raster &second);
 Answer least_move_pair(const Settings &settings, const Raster &first, const Raster &second);
+
+// What the library tells of the four quadrants: upper left, upper right, lower left, lower right.
+struct Warning {
+    std::array<Move, 4> offsets;
+    bool turned;
+    bool operator==(const Warning &other) const { return offsets == other.offsets && turned == other.turned; }
+};
+
+// By mtb_quadrants. It ends the program when an offset is not that of mtb_pair on the quadrants cut out, or when the warning
+// does not follow from the four.
+Warning quadrants(const Settings &settings, const Raster &first, const Raster &second);
 
 // Null when the program was built without OpenCV.
 const char *opencv_version();

@@ -106,11 +106,12 @@ void try_all(uint64_t seed)
                 for (size_t t = 0; t < tones.size(); t++)
                     try_scene(size, scene_kinds[k], tones[t], Random({seed, uint64_t(repeat), uint64_t(size.w), k, t}));
             }
-    std::fprintf(stderr, "\raccuracy: hopeless pairs, re-exposure%40s\n", "");
+    std::fprintf(stderr, "\raccuracy: hopeless pairs, re-exposure, rotation%40s\n", "");
     for (size_t k = 0; k < scene_kinds.size(); k++)
         for (size_t t = 0; t < tones.size(); t++)
             try_hopeless(scene_kinds[k], tones[t], Random({seed, k, t}));
     try_reexposure(seed);
+    try_rotation(seed);
 }
 
 // The scenes side by side as the plain exposure shows them, white lines between.

@@ -15,3 +15,6 @@ Pair take_pair(const Scene &scene, int margin, int w, int h, Move truth, const T
 
 // Whether the answer stays as it was when frames are re-exposed (reexposure.cpp).
 void try_reexposure(uint64_t seed);
+
+// Whether the four quadrants tell that a frame has turned (rotation.cpp).
+void try_rotation(uint64_t seed);

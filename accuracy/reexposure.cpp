@@ -103,13 +103,15 @@ void compare(const std::string &scene, int noise, const Pair &pair, const std::v
                 Answer ward_again = ward_pair(settings, after.first, after.second);
                 Answer least_move = least_move_pair(settings, pair.first, pair.second);
                 Answer least_move_again = least_move_pair(settings, after.first, after.second);
+                Warning warning = quadrants(settings, pair.first, pair.second);
+                Warning warning_again = quadrants(settings, after.first, after.second);
                 Move theirs = opencv_pair(settings, pair.first, pair.second);
                 Move theirs_again = opencv_pair(settings, after.first, after.second);
-                std::printf("reexposed\t%s\t%s\t%d\t%d\t%d\t%d\t%d\t%d\t%d\t%d\t%d\t%d\n", scene.c_str(),
+                std::printf("reexposed\t%s\t%s\t%d\t%d\t%d\t%d\t%d\t%d\t%d\t%d\t%d\t%d\t%d\n", scene.c_str(),
                             reexposure.name.c_str(), merges(reexposure.first) || merges(reexposure.second), noise,
                             tolerance, percentile, ward == ward_again, least_move == least_move_again,
-                            ward.offset == ward_again.offset, ward.offset == pair.truth, ward_again.offset == pair.truth,
-                            theirs == theirs_again);
+                            warning == warning_again, ward.offset == ward_again.offset, ward.offset == pair.truth,
+                            ward_again.offset == pair.truth, theirs == theirs_again);
             }
     }
 }

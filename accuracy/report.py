@@ -4,6 +4,7 @@ report.py SEED FOLDER: reads FOLDER/measured.tsv and FOLDER/scenes.pgm, prints t
 to docs/ only for the default seed and with OpenCV measured, so that docs/ACCURACY.md is what `accuracy/run` gives.
 """
 import collections
+import math
 import operator
 import os
 import re
@@ -15,8 +16,10 @@ import zlib
 DEFAULT_SEED = "1"
 DETAILED = ("leaves", "soft hills")
 SKY = ("nebula", "nebula with stars", "dense stars", "sparse stars")
+ALIGNED = (*DETAILED, "nebula with stars", "dense stars")  # whose quadrants are mostly aligned rightly
 STARS = SKY[1:]
 HAZE = "flat haze"
+OVEREXPOSED = ("over", "under, over")  # tones that clip highlights; of soft hills the threshold too
 CALLS_A_PAIR = 15  # five tolerances, three percentiles
 
 # Offsets: true, Ward's order (mtb_pair_ward), least move (mtb_pair), OpenCV; what was counted at Ward's and at the least
@@ -25,24 +28,40 @@ Trial = collections.namedtuple("Trial", "w h scene tone noise s T P truth ward l
 # An answer's own count on the finest level, and the pixels that were compared for it.
 Counted = collections.namedtuple("Counted", "count compared")
 Reexposed = collections.namedtuple(
-    "Reexposed", "scene curve merges noise T P same same_least same_offset before after theirs")
+    "Reexposed", "scene curve merges noise T P same same_least same_quadrants same_offset before after theirs")
+# A second frame that was turned, by tenths of a degree, and slid: the offsets and the warning of mtb_quadrants; levels has the
+# counts of mtb_pair on the whole frames.
+Posed = collections.namedtuple("Posed", "w h scene tone noise tenths slide offsets turned levels")
+POSED = ("turned", "slid", "slid by parts")  # experiments
+
+
+def by_level(counts):
+    counts = [int(c) for c in counts.split()]
+    return [counts[i:i + 9] for i in range(0, len(counts), 9)]
+
+
+def read_posed(w, h, scene, tone, noise, tenths, dx, dy, *offsets, turned, counts):
+    moves = tuple(zip(map(int, offsets[::2]), map(int, offsets[1::2])))
+    return Posed(int(w), int(h), scene, tone, int(noise), float(tenths), (float(dx), float(dy)), moves, turned == "1",
+                 by_level(counts))
 
 
 def read(path):
     """OpenCV's version ('' when it was not measured), each experiment's trials in order, the re-exposed pairs."""
-    opencv, trials, reexposed = "", {"pair": [], "beyond": [], "unrelated": []}, []
+    opencv, trials, reexposed = "", {kind: [] for kind in ("pair", "beyond", "unrelated", *POSED)}, []
     for line in open(path, encoding="utf-8"):
         kind, *fields = line.rstrip("\n").split("\t")
         if kind == "opencv":
             opencv = fields[0]
+        elif kind in POSED:
+            *fields, turned, counts = fields
+            trials[kind].append(read_posed(*fields, turned=turned, counts=counts))
         elif kind in trials:
             w, h, scene, tone, *numbers, counts = fields
             noise, s, T, P, *numbers = map(int, numbers)
             *moves, at_ward, at_least = zip(numbers[::2], numbers[1::2])
-            counts = [int(c) for c in counts.split()]
-            levels = [counts[i:i + 9] for i in range(0, len(counts), 9)]
             trials[kind].append(Trial(int(w), int(h), scene, tone, noise, s, T, P, *moves, Counted(*at_ward),
-                                      Counted(*at_least), levels))
+                                      Counted(*at_least), by_level(counts)))
         else:
             reexposed.append(Reexposed(fields[0], fields[1], *map(int, fields[2:])))
     return opencv, trials, reexposed
@@ -178,9 +197,76 @@ def weak_row(name, trials):
     return [name, f"{len(weak)} of {len(trials)}", *figures, sum(t.least != t.ward for t in weak), nearer]
 
 
+def angle_of(posed):
+    return f"{abs(posed.tenths) / 10:g}°"
+
+
+def displacement(posed, k):
+    """How far the middle of quadrant k lies off: the true offset there, which need not be whole."""
+    angle = math.radians(posed.tenths / 10)
+    x = (posed.w - posed.w // 2) / (2 if k % 2 else -2)
+    y = (posed.h - posed.h // 2) / (2 if k // 2 else -2)
+    return (math.cos(angle) * x - math.sin(angle) * y - x + posed.slide[0],
+            math.sin(angle) * x + math.cos(angle) * y - y + posed.slide[1])
+
+
+def four_right(posed):
+    """Each offset is less than a pixel off what its quadrant's middle has moved by: of whole slides, exact."""
+    return all(off(offset, displacement(posed, k)) < 1 for k, offset in enumerate(posed.offsets))
+
+
+def goes_round(posed):
+    """The four look like a turn: neighbours in a row agree in dx, in a column in dy, to a pixel, and of dx downwards and dy to
+    the right one grows and the other shrinks."""
+    upper_left, upper_right, lower_left, lower_right = posed.offsets
+    rows = [upper_left[0] - upper_right[0], lower_left[0] - lower_right[0]]
+    columns = [upper_left[1] - lower_left[1], upper_right[1] - lower_right[1]]
+    down = lower_left[0] + lower_right[0] - upper_left[0] - upper_right[0]
+    right = upper_right[1] + lower_right[1] - upper_left[1] - lower_left[1]
+    return max(map(abs, rows + columns)) <= 1 and down * right < 0
+
+
+def believable(posed):
+    return posed.turned and goes_round(posed)
+
+
+def warned(group):
+    return sum(t.turned for t in group)
+
+
+def warned_share(group):
+    return percent(warned(group), len(group))
+
+
+def warned_of(group):
+    return f"{warned(group)} of {len(group)}"
+
+
+def warned_cell(group):
+    return f"{warned(group)} / {sum(map(believable, group))}"
+
+
+def slid_cell(group):
+    return f"{warned(group)} / {sum(map(four_right, group))}"
+
+
+def expected_share(posed):
+    """Of frames of this size turned so far and slid anyhow, those whose quadrants' middles, rounded, are two apart."""
+    sine = abs(math.sin(math.radians(posed.tenths / 10)))
+    far = [min(1, max(0, side * sine - 1)) for side in (posed.w - posed.w // 2, posed.h - posed.h // 2)]
+    return 1 - (1 - far[0]) * (1 - far[1])
+
+
+def slid_row(name, group):
+    """Frames that only slid: all, where the whole frames' rows are clear, and where not."""
+    cells = [len(group), warned(group), warned_share(group), sum(map(believable, group))]
+    return [name, *cells, warned_of([t for t in group if clear(t)]), warned_of([t for t in group if not clear(t)])]
+
+
 class Report:
     def __init__(self, opencv, trials, reexposed):
         self.opencv, self.trials, self.reexposed = opencv, trials["pair"], reexposed
+        self.turned, self.slid, self.slid_by_parts = (trials[kind] for kind in POSED)
         self.beyond, self.unrelated = trials["beyond"], trials["unrelated"]
         self.parts = {}  # what the template's {{names}} stand for
 
@@ -366,7 +452,7 @@ class Report:
         for curve, group in groups.items():
             at = {T: [r for r in group if r.T == T] for T in (0, 1, 4)}
             same = [sum(r.same for r in at[T]) for T in (0, 1, 4)]
-            if not group[0].merges and not all(r.same and r.same_least for r in at[0]):
+            if not group[0].merges and not all(r.same and r.same_least and r.same_quadrants for r in at[0]):
                 sys.exit(f"accuracy: {curve} merges nothing, but changed an answer at T = 0: the theorem says it cannot")
             median = [r for r in at[0] if r.P == 50]
             theirs = f"{sum(r.theirs for r in median)} of {len(median)}" if self.opencv else "–"
@@ -374,9 +460,59 @@ class Report:
                          sum(r.after for r in at[0]), theirs])
             self.parts["reexposure before"] = sum(r.before for r in at[0])
             self.parts["reexposure of"] = len(at[0])
+        self.parts["reexposed quadrants"] = sum(r.T == 0 and not r.merges for r in self.reexposed)
         self.parts["reexposure"] = markdown(["curve", "merges values", "same at T = 0", "same at T = 1",
                                              "same at T = 4", "same offset at T = 0", "true after, T = 0",
                                              "OpenCV: same offset, T = 0"], rows)
+
+    def turned_frames(self):
+        """From which angle on the warning comes, with what geometry says of middles that are found exactly."""
+        for w, name in ((640, "turned"), (320, "turned small"), (1920, "turned large")):
+            trials = [t for t in self.turned if t.w == w]
+            self.hits(name, trials, lambda t: t.scene, angle_of, "scene", "{}", warned_cell)
+            shares = {angle_of(t): expected_share(t) for t in trials}
+            expected = [f"{self.parts[name + ' of'] * share:.0f}" for share in shares.values()]
+            self.parts[name] += f"\n| *by geometry* | {' | '.join(expected)} |"
+        self.hits("turned right", [t for t in self.turned if t.w == 640], lambda t: t.scene, angle_of, "scene", "{}",
+                  lambda group: sum(map(four_right, group)))
+
+    def slid_frames(self):
+        """How often the warning comes where nothing has turned."""
+        for w, name in ((640, "slid"), (320, "slid small")):
+            trials = [t for t in self.slid if t.w == w]
+            self.hits(name, trials, lambda t: t.scene, lambda t: t.noise, "scene", "noise {}", slid_cell)
+        self.hits("slid tones", self.slid, lambda t: t.tone, lambda t: t.scene, "tone", "{}", slid_cell)
+        both = self.slid + self.slid_by_parts
+        rows = [slid_row(v, [t for t in both if t.scene == v]) for v in values(both, lambda t: t.scene)]
+        for name, group in (("**all**", both), ("by whole pixels", self.slid), ("by parts of a pixel", self.slid_by_parts)):
+            rows.append(slid_row(name, group))
+        self.parts["slid all"] = markdown(["only slid", "pairs", "warned", "%", "and going round",
+                                           "warned, whole frames' rows clear", "warned, not clear"], rows)
+
+    def trust_in_warnings(self):
+        """What the text says of them: warnings of frames that only slid, and that turned far enough to be certain of one."""
+        slid = self.slid + self.slid_by_parts
+        far = [t for t in self.turned if t.scene in ALIGNED and expected_share(t) == 1]
+        near = [t for t in far if math.radians(abs(t.tenths) / 10) * t.w / 2 <= 4]
+        leaves = [t for t in far if t.scene == "leaves"]
+        aligned = [t for t in slid if t.scene in ALIGNED]
+        self.parts.update({f"false alarms {v}": warned_share([t for t in slid if t.scene == v]) for v in (*SKY, "soft hills")})
+        hills, haze = [t for t in slid if t.scene == "soft hills"], [t for t in slid if t.scene == HAZE and t.noise > 0]
+        for name, some in (("hills", hills), ("noisy haze", haze)):
+            self.parts[f"overexposed {name}"] = warned_of([t for t in some if t.tone in OVEREXPOSED])
+            self.parts[f"other {name}"] = warned_of([t for t in some if t.tone not in OVEREXPOSED])
+        self.parts.update({
+            "slid pairs": len(slid),
+            "false alarms": warned_share(slid),
+            "false alarms aligned": warned_share(aligned),
+            "false aligned": warned_of(aligned),
+            "false rounds": sum(map(believable, slid)),
+            "far": len(far),
+            "far warned": warned(far),
+            "near round": percent(sum(map(believable, near)), len(near)),
+            "leaves clear": sum(map(clear, leaves)),
+            "leaves": len(leaves),
+        })
 
     def example(self, name, wanted):
         """The first trial that is wanted, as `bracket` prints it."""
@@ -405,7 +541,7 @@ class Report:
         self.parts["calls"] = len(self.trials)
         for part in (self.tolerances, self.halvings, self.tones, self.noises, self.percentiles, self.haze, self.weak,
                      self.rule, self.hopeless, self.asking_again, self.shares, self.warnings, self.few_or_many,
-                     self.reexposure, self.examples):
+                     self.reexposure, self.turned_frames, self.slid_frames, self.trust_in_warnings, self.examples):
             part()
         return self.parts
 

@@ -6,7 +6,7 @@
 
 #include <string.h>
 
-enum { WORD_BITS = 64, CANDIDATES = 9, GREYS = 256, TWOS = 16 };
+enum { WORD_BITS = 64, CANDIDATES = 9, MOST_LEVELS = 9, QUADRANTS = 4, GREYS = 256, TWOS = 16 };
 
 /* A step is kept a function of its own, so that a profile tells it apart. */
 #define STEP __attribute__((noinline)) static
@@ -305,21 +305,31 @@ void careful_difference(uint32_t w, uint32_t h, int32_t dx, int32_t dy, uint64_t
 /* What follows the first k numbers, where there are any. */
 static uint32_t *after(uint32_t *numbers, size_t k) { return numbers == NULL ? NULL : numbers + k; }
 
+/* The candidates as equal counts prefer them: in Ward's order, and by the least move. */
+static const uint8_t WARD[CANDIDATES] = {0, 1, 2, 3, 4, 5, 6, 7, 8}, LEAST_MOVE[CANDIDATES] = {4, 1, 7, 3, 5, 0, 2, 6, 8};
+
+static uint8_t first_least(const uint32_t *counts, const uint8_t *order)
+{
+    uint8_t best = order[0];
+    for (int k = 1; k < CANDIDATES; k++)
+        if (counts[order[k]] < counts[best])
+            best = order[k];
+    return best;
+}
+
+static struct offset candidate(struct offset centre, int k)
+{
+    struct offset o = {centre.dx + k / 3 - 1, centre.dy + k % 3 - 1};
+    return o;
+}
+
 /* The nine counts around a centre, the compared numbers where there is room for them, and the first least count. */
 static struct offset choose(struct planes first, struct planes second, struct size z, struct offset centre,
-                            uint32_t *counts, uint32_t *compared)
+                            const uint8_t *order, uint32_t *counts, uint32_t *compared)
 {
-    struct offset best = centre;
-    uint32_t least_count = UINT32_MAX;
-    for (int k = 0; k < CANDIDATES; k++) {
-        struct offset o = {centre.dx + k / 3 - 1, centre.dy + k % 3 - 1};
-        count_at(first, second, z, o, &counts[k], after(compared, (size_t)k));
-        if (counts[k] < least_count) {
-            least_count = counts[k];
-            best = o;
-        }
-    }
-    return best;
+    for (int k = 0; k < CANDIDATES; k++)
+        count_at(first, second, z, candidate(centre, k), &counts[k], after(compared, (size_t)k));
+    return candidate(centre, first_least(counts, order));
 }
 
 /* A frame's levels stand one after another, the finest first. */
@@ -331,9 +341,8 @@ static size_t level_pixels(uint32_t w, uint32_t h, uint32_t levels)
     return n;
 }
 
-static void build_levels(const uint8_t *raster, uint32_t w, uint32_t h, uint32_t s, uint8_t *levels)
+static void halve_all(uint32_t w, uint32_t h, uint32_t s, uint8_t *levels)
 {
-    to_grey(raster, (size_t)w * h, levels);
     for (uint32_t k = 0; k < s; k++) {
         size_t n = (size_t)(w >> k) * (h >> k);
         halve(levels, w >> k, h >> k, levels + n);
@@ -341,10 +350,24 @@ static void build_levels(const uint8_t *raster, uint32_t w, uint32_t h, uint32_t
     }
 }
 
+static void build_levels(const uint8_t *raster, uint32_t w, uint32_t h, uint32_t s, uint8_t *levels)
+{
+    to_grey(raster, (size_t)w * h, levels);
+    halve_all(w, h, s, levels);
+}
+
+/* Of w by h pixels within a raster whose rows are longer: no row is copied. */
+static void build_part(const uint8_t *raster, size_t row, uint32_t w, uint32_t h, uint32_t s, uint8_t *levels)
+{
+    for (size_t y = 0; y < h; y++)
+        to_grey(raster + 3 * y * row, w, levels + y * w);
+    halve_all(w, h, s, levels);
+}
+
 /* Two frames' levels, from the coarsest to the finest. */
 static struct offset align(const uint8_t *first, const uint8_t *second, uint32_t w, uint32_t h, uint32_t s,
-                           uint32_t tolerance, uint32_t percentile, uint32_t *counts, uint32_t *compared,
-                           uint64_t *words)
+                           uint32_t tolerance, uint32_t percentile, const uint8_t *order, uint32_t *counts,
+                           uint32_t *compared, uint64_t *words)
 {
     struct offset o = {0, 0};
     for (uint32_t k = s + 1; k-- > 0;) {
@@ -354,7 +377,7 @@ static struct offset align(const uint8_t *first, const uint8_t *second, uint32_t
         struct offset centre = {2 * o.dx, 2 * o.dy};
         pack(first + at, z, percentile, tolerance, one);
         pack(second + at, z, percentile, tolerance, two);
-        o = choose(one, two, z, centre, counts, compared);
+        o = choose(one, two, z, centre, order, counts, compared);
         counts += CANDIDATES;
         compared = after(compared, CANDIDATES);
     }
@@ -368,9 +391,36 @@ void careful_pair(uint32_t w, uint32_t h, uint32_t s, uint32_t tolerance, uint32
     uint8_t *other = grey + level_pixels(w, h, s + 1);
     build_levels(first, w, h, s, grey);
     build_levels(second, w, h, s, other);
-    struct offset o = align(grey, other, w, h, s, tolerance, percentile, counts, compared, words);
+    struct offset o = align(grey, other, w, h, s, tolerance, percentile, WARD, counts, compared, words);
     *dx = o.dx;
     *dy = o.dy;
+}
+
+/* Whether two of four moves differ by more than 1 on the axis where the first number stands. */
+static int far_apart(const int32_t *offsets)
+{
+    int32_t low = offsets[0], high = offsets[0];
+    for (int k = 2; k < 2 * QUADRANTS; k += 2) {
+        low = offsets[k] < low ? offsets[k] : low;
+        high = offsets[k] > high ? offsets[k] : high;
+    }
+    return high - low > 1;
+}
+
+int careful_quadrants(uint32_t w, uint32_t h, uint32_t s, uint32_t tolerance, uint32_t percentile, const uint8_t *first,
+                      const uint8_t *second, int32_t *offsets, uint8_t *grey, uint64_t *words)
+{
+    uint32_t half_w = w / 2, half_h = h / 2, counts[CANDIDATES * MOST_LEVELS];
+    uint8_t *other = grey + level_pixels(half_w, half_h, s + 1);
+    for (int k = 0; k < QUADRANTS; k++) {
+        size_t left = k % 2 ? w - half_w : 0, top = k / 2 ? h - half_h : 0, at = 3 * (top * w + left);
+        build_part(first + at, w, half_w, half_h, s, grey);
+        build_part(second + at, w, half_w, half_h, s, other);
+        struct offset o = align(grey, other, half_w, half_h, s, tolerance, percentile, LEAST_MOVE, counts, NULL, words);
+        offsets[2 * k] = o.dx;
+        offsets[2 * k + 1] = o.dy;
+    }
+    return far_apart(offsets) || far_apart(offsets + 1);
 }
 
 /* Pair offsets, of which pair j stands in frame j's slot, summed about frame r. */
@@ -401,7 +451,7 @@ void careful_series(uint32_t w, uint32_t h, uint32_t s, uint32_t tolerance, uint
     for (uint32_t k = 1; k < n; k++) {
         size_t at = (size_t)(k - 1) * CANDIDATES * (s + 1);
         build_levels(rasters + (size_t)k * 3 * w * h, w, h, s, levels[k % 2]);
-        struct offset o = align(levels[(k - 1) % 2], levels[k % 2], w, h, s, tolerance, percentiles[k - 1],
+        struct offset o = align(levels[(k - 1) % 2], levels[k % 2], w, h, s, tolerance, percentiles[k - 1], WARD,
                                 counts + at, after(compared, at), words);
         offsets[2 * k] = o.dx;
         offsets[2 * k + 1] = o.dy;

@@ -1,6 +1,6 @@
-/* The careful C program that the library is measured against: the same rules, Ward's order among equal counts, the same
- * lent memory, inputs taken on trust. The header says what each buffer holds; the library's own is include/mtb.h.
- * Where `compared` is NULL it counts only differences, as it did before Paper 2. */
+/* The careful C program that the library is measured against: the same rules, Ward's order among equal counts but for the
+ * quadrants, the same lent memory, inputs taken on trust. The header says what each buffer holds; the library's own is
+ * include/mtb.h. Where `compared` is NULL it counts only differences, as it did before Paper 2. */
 #ifndef CAREFUL_H
 #define CAREFUL_H
 
@@ -18,6 +18,11 @@ void careful_pair(uint32_t w, uint32_t h, uint32_t s, uint32_t tolerance, uint32
 void careful_series(uint32_t w, uint32_t h, uint32_t s, uint32_t tolerance, uint32_t n, uint32_t r,
                     const uint32_t *percentiles, const uint8_t *rasters, int32_t *offsets, uint32_t *counts,
                     uint32_t *compared, uint8_t *grey, uint64_t *words);
+
+/* Two rasters of w by h. Writes the offsets of the four quadrants, by the least move, and tells whether the second frame
+ * has turned. It counts only differences: that is all the offsets need. Work memory as for a pair of half the sides. */
+int careful_quadrants(uint32_t w, uint32_t h, uint32_t s, uint32_t tolerance, uint32_t percentile, const uint8_t *first,
+                      const uint8_t *second, int32_t *offsets, uint8_t *grey, uint64_t *words);
 
 /* The difference count and the compared number of two frames' bitmaps, whose bits past w are 0, at a move by less than w
  * and h. */

@@ -22,6 +22,8 @@ COUNTED_SIZES = ((640, 480), (1920, 1080))  # the sizes at which instructions ar
 # call. From docs/BENCHMARK.md as commit 060eb06 has it.
 BEFORE = {(2, 640, 480): 25.35, (2, 1920, 1080): 23.80, (9, 640, 480): 22.36, (9, 1920, 1080): 20.91}
 BEFORE_WINDOW = 0.70
+# Who takes the quadrants of a pair, or the pair: by name, in the table.
+QUADRANTS = {LIBRARY: "`mtb_quadrants`", "pair": "`mtb_pair`", "four pairs": "four pairs", CAREFUL: CAREFUL}
 ASKED = ((640, 480), (1920, 1080), (4096, 4096))  # the sizes of our goals
 LARGE = 1920 * 1080  # goals against OpenCV and memcpy hold from here on
 WINDOW = 65 * 65  # moves of the window of single difference calls
@@ -42,15 +44,18 @@ COUNTED = Job("scene", 640, 480, 2, 6)  # the pair whose instructions are told b
 Time = namedtuple("Time", "median least turns offset true to_library")
 # all moves of the window: milliseconds, and how many times the library's time
 Calls = namedtuple("Calls", "median least to_library")
+# the quadrants of a pair, or the pair: milliseconds, and how many times the time that the library takes for the quadrants
+Quartered = namedtuple("Quartered", "median to_library")
 
 
 class Results:
     """What was measured: times[job][name] with freed memory kept, default[job][name] with the C library's own ways,
-    window[name] of single difference calls, facts, agreement, and the profiles in the folder."""
+    window[name] of single difference calls, quadrants[size][name], facts, agreement, and the profiles in the folder."""
 
     def __init__(self, folder):
         self.folder = folder
-        self.times, self.default, self.window, self.facts, self.agreed = {}, {}, {}, {}, (0, 0)
+        self.times, self.default, self.window, self.quadrants, self.facts = {}, {}, {}, {}, {}
+        self.agreed, self.agreed_quadrants = (0, 0), (0, 0)
         with open(os.path.join(folder, "results.tsv")) as lines:
             for line in lines:
                 self.take(line.rstrip("\n").split("\t"))
@@ -61,6 +66,11 @@ class Results:
             self.facts[words[1]] = words[2]
         elif kind == "agree":
             self.agreed = (int(words[1]), int(words[2]))
+        elif kind == "agree quadrants":
+            self.agreed_quadrants = (int(words[1]), int(words[2]))
+        elif kind == "quadrants":
+            times = self.quadrants.setdefault((int(words[1]), int(words[2])), {})
+            times[words[3]] = Quartered(int(words[4]) / 1e6, float(words[5]))
         elif kind == "window":
             self.window[words[1]] = Calls(int(words[2]) / 1e6, int(words[3]) / 1e6, float(words[4]))
         elif kind in ("time", "default"):
@@ -87,6 +97,10 @@ class Results:
     def counted_in_window(self, name):
         """Instructions a pixel of a single difference call; None where they were not counted."""
         return sum(self.profile("window", name, COUNTED.w, COUNTED.h).values()) / (WINDOW * pixels(COUNTED)) or None
+
+    def counted_quadrants(self, size, name):
+        """Instructions a pixel of the frame, of its quadrants or of the pair; None where they were not counted."""
+        return sum(self.profile("quadrants", name, *size).values()) / (size[0] * size[1]) or None
 
     def ratio(self, job, a, b):
         return ratio(self.times[job], a, b)
@@ -255,6 +269,21 @@ def window_table(results):
     return table(["640×480, 65×65 moves", "median, ms", "fastest, ms", "a call, µs", "library / this", *COSTS], rows)
 
 
+def quadrants_table(results):
+    """A row each size: the four quadrants by the library, and what else takes four quadrants or the pair."""
+    rows = []
+    for (w, h), times in results.quadrants.items():
+        ratios = [shown(ratio(times, LIBRARY, name)) for name in QUADRANTS if name != LIBRARY]
+        rows.append([f"{w}×{h}", *(milliseconds(times[name].median) for name in QUADRANTS), *ratios])
+    head = [f"{title}, ms" for title in QUADRANTS.values()]
+    return table(["s = 5", *head, *(f"quadrants / {title}" for name, title in QUADRANTS.items() if name != LIBRARY)], rows)
+
+
+def quadrants_counted(results):
+    rows = [[f"{w}×{h}", *(shown(results.counted_quadrants((w, h), name)) for name in QUADRANTS)] for w, h in COUNTED_SIZES]
+    return table(["instructions a pixel, s = 5", *QUADRANTS.values()], rows)
+
+
 def default_table(results):
     rows = [[size(j), *(milliseconds(t[name].median) for name in (LIBRARY, OPENCV)), shown(ratio(t, OPENCV, LIBRARY))]
             for j, t in sorted(results.default.items(), key=lambda item: pixels(item[0])) if OPENCV in t]
@@ -375,6 +404,7 @@ def document(results):
     with open(os.path.join(os.path.dirname(__file__), "BENCHMARK.template.md")) as f:
         text = f.read()
     jobs, pairs = results.agreed
+    alike, turned = results.agreed_quadrants
     few, many = turns(results)
     parts = {
         "busy": busy(results),
@@ -385,10 +415,13 @@ def document(results):
         "numbers": numbers_table(results),
         "default": default_table(results),
         "window": window_table(results),
+        "quadrants": quadrants_table(results),
+        "quartered": quadrants_counted(results),
         "s": s_table(results),
         "instructions": instruction_table(results),
         "machine": machine(results),
         "agreed": f"{pairs} pairs in {jobs} random series",
+        "alike": f"{alike} random pairs, of which {turned} were turned",
         "offsets": offsets_line(results),
         "turns": f"{few} to {many}",
     }
@@ -411,7 +444,7 @@ def main():
     with open(os.path.join(docs, "benchmark.svg"), "w") as f:
         f.write(picture(results))
     for text in (pair_table(results), default_table(results), series_table(results), order_table(results),
-                 numbers_table(results), window_table(results)):
+                 numbers_table(results), window_table(results), quadrants_table(results), quadrants_counted(results)):
         print(text + "\n")
     for goal in goals(results):
         print(f"{goal.met}: {goal.text}: {goal.measured}")

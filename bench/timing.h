@@ -1,4 +1,4 @@
-/* What both programs of the benchmark use to take times. */
+/* What the programs of the benchmark use to take times. */
 #ifndef TIMING_H
 #define TIMING_H
 

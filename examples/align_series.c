@@ -111,7 +111,7 @@ static void print_common_area(const struct series *series, const int32_t *offset
 int main(int argc, char **argv)
 {
     uint32_t settings[] = {[HALVINGS] = NOT_GIVEN, [TOLERANCE] = 0, [PERCENTILE] = 50, [REFERENCE] = 0};
-    int files = read_options(argc, argv, 4, settings);
+    int files = read_options(argc, argv, "stpr", settings);
     if (files == 0 || files == argc) {
         fputs("usage: align_series [-s HALVINGS] [-t TOLERANCE] [-p PERCENTILE] [-r REFERENCE] FILE...\n", stderr);
         return 2;

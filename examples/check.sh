@@ -1,10 +1,12 @@
 #!/bin/sh
-# Tries the examples on good and bad input and compares all that they print, and their status, with what is expected:
-#     check.sh BUILD SAMPLES
-# where BUILD has the programs and the sanitized ones. Ends with the number of trials.
+# Tries the examples on good and bad input and compares all that they print, their status, and pictures of `rotation` with what is
+# expected:
+#     check.sh BUILD SAMPLES LARGE
+# where BUILD has the programs and the sanitized ones, and LARGE larger samples. Ends with the number of trials.
 set -u
 build=$(cd "$1" && pwd)
 samples=$(cd "$2" && pwd)
+large=$(cd "$3" && pwd)
 rm -rf "$build/check"
 mkdir -p "$build/check"
 cd "$build/check" || exit 1
@@ -28,6 +30,7 @@ expect() {
 
 align() { "$bin/align_series" "$@"; }
 pictures() { "$bin/pictures" "$@"; }
+rotation() { "$bin/rotation" "$@"; }
 
 # A flat frame: flat W H FILE
 flat() {
@@ -39,6 +42,7 @@ flat 200 200 larger.ppm
 flat 160 119 lower.ppm
 flat 120 160 upright.ppm
 flat 3 3 tiny.ppm
+flat 17 33 odd.ppm
 flat 5000 1 wide.ppm
 # 32 rows of the first frame: strip ROW FILE
 strip() {
@@ -175,6 +179,107 @@ none/first-bits.ppm: No such file or directory' pictures first.ppm second.ppm no
 ln -s /dev/full full/first-bits.ppm
 expect 1 'offset 5 -3
 full/first-bits.ppm: No space left on device' pictures first.ppm second.ppm full
+
+# Frames of 640 by 480: the second slid by (5, -3), and turned by half a degree besides.
+expect 0 'quadrants of 320 by 240 pixels, s = 4, T = 0, P = 50
+   dx    dy
+    5    -3  upper left
+    5    -3  upper right
+    5    -3  lower left
+    5    -3  lower right
+not turned
+slid.ppm: yellow arrows 18 times as long, red ones 54 times' rotation "$large/first.ppm" "$large/second.ppm" slid.ppm
+expect 0 'quadrants of 320 by 240 pixels, s = 4, T = 0, P = 50
+   dx    dy
+    4    -2  upper left
+    4    -4  upper right
+    6    -1  lower left
+    6    -4  lower right
+turned
+turned.ppm: yellow arrows 15 times as long, red ones 45 times' rotation -a 5 "$large/first.ppm" "$large/second.ppm" turned.ppm
+# A frame against itself: nothing but the turn.
+expect 0 'quadrants of 320 by 240 pixels, s = 3, T = 1, P = 83
+   dx    dy
+   -1     1  upper left
+   -1    -1  upper right
+    1     1  lower left
+    1    -1  lower right
+turned
+turned.ppm: yellow arrows 90 times as long, red ones 90 times' rotation -s 3 -t 1 -p 83 -a 5 "$large/first.ppm" "$large/first.ppm" turned.ppm
+# On the samples half a degree is too little to be told; two degrees are enough. These pictures are the same on every machine.
+quarters='quadrants of 80 by 60 pixels, s = 2, T = 0, P = 50
+   dx    dy'
+expect 0 "$quarters
+    5    -3  upper left
+    5    -3  upper right
+    5    -2  lower left
+    5    -3  lower right
+not turned
+slid.ppm: yellow arrows 4 times as long, red ones 12 times" rotation -a 5 first.ppm second.ppm slid.ppm
+expect 0 '102203265 57615 slid.ppm' cksum slid.ppm
+expect 0 "$quarters
+    4    -2  upper left
+    4    -4  upper right
+    6    -1  lower left
+    6    -4  lower right
+turned
+turned.ppm: yellow arrows 3 times as long, red ones 9 times" rotation -a 20 first.ppm second.ppm turned.ppm
+expect 0 '566417216 57615 turned.ppm' cksum turned.ppm
+# Once round is not at all.
+expect 0 "$quarters
+    5    -3  upper left
+    5    -3  upper right
+    5    -3  lower left
+    5    -3  lower right
+not turned
+slid.ppm: yellow arrows 4 times as long, red ones 12 times" rotation -a 3600 first.ppm second.ppm slid.ppm
+expect 0 '4054882523 57615 slid.ppm' cksum slid.ppm
+# The library reads the picture, which has the first frame's size; upside down is a turn too, whatever it finds.
+expect 0 '160 by 120 pixels, s = 3, T = 0, P = 50, r = 0
+   dx    dy  compared
+    0     0         -  slid.ppm
+common area: 160 by 120, columns 0 to 159, rows 0 to 119' align slid.ppm
+expect 0 turned sh -c "'$bin/rotation' -a 1800 first.ppm second.ppm turned.ppm | sed -n 7p"
+# Flat frames do not move; an odd middle column and row are left out; arrows of no length are dots.
+expect 0 'quadrants of 8 by 16 pixels, s = 0, T = 0, P = 50
+   dx    dy
+    0     0  upper left
+    0     0  upper right
+    0     0  lower left
+    0     0  lower right
+not turned
+slid.ppm: yellow arrows 12 times as long, red ones 12 times' rotation -a 7 odd.ppm odd.ppm slid.ppm
+expect 0 '3280458374 1696 slid.ppm' cksum slid.ppm
+
+usage='usage: rotation [-s HALVINGS] [-t TOLERANCE] [-p PERCENTILE] [-a TENTHS] FIRST SECOND PICTURE'
+expect 2 "$usage" rotation
+expect 2 "$usage" rotation first.ppm second.ppm
+expect 2 "$usage" rotation -a first.ppm second.ppm slid.ppm
+expect 2 "$usage" rotation -a -5 first.ppm second.ppm slid.ppm
+expect 2 "$usage" rotation -r 1 first.ppm second.ppm slid.ppm
+expect 1 'none.ppm: No such file or directory' rotation first.ppm none.ppm slid.ppm
+expect 1 "grey.ppm: $header" rotation grey.ppm second.ppm slid.ppm
+expect 1 "longer.ppm: $length" rotation first.ppm longer.ppm slid.ppm
+expect 1 'lower.ppm: not of the first frame'\''s size' rotation first.ppm lower.ppm slid.ppm
+expect 1 'the quadrants: refused (3): there are more than 8 halvings' rotation -s 9 first.ppm second.ppm slid.ppm
+# A pair of this size goes down to s = 4; a quadrant does not.
+expect 1 'the quadrants: refused (4): a side is too short for this many halvings' rotation -s 4 first.ppm second.ppm slid.ppm
+expect 1 'the quadrants: refused (4): a side is too short for this many halvings' rotation tiny.ppm tiny.ppm slid.ppm
+expect 1 'the quadrants: refused (5): the tolerance is above 64' rotation -t 65 first.ppm second.ppm slid.ppm
+expect 1 'the quadrants: refused (8): the percentile is not 17, 50 or 83' rotation -p 51 first.ppm second.ppm slid.ppm
+still='quadrants of 8 by 8 pixels, s = 0, T = 0, P = 50
+   dx    dy
+    0     0  upper left
+    0     0  upper right
+    0     0  lower left
+    0     0  lower right
+not turned'
+expect 1 "$still
+none/slid.ppm: yellow arrows 12 times as long, red ones 12 times
+none/slid.ppm: No such file or directory" rotation flat.ppm flat.ppm none/slid.ppm
+expect 1 "$still
+/dev/full: yellow arrows 12 times as long, red ones 12 times
+/dev/full: No space left on device" rotation flat.ppm flat.ppm /dev/full
 
 echo "$trials tried, $failures failed"
 [ "$failures" = 0 ]

@@ -7,7 +7,7 @@
 
 #include "mtb.h"
 
-enum { MOST_HALVINGS = 5, MOST_DIGITS = 9 };
+enum { MOST_HALVINGS = 5, MOST_DIGITS = 9, LONGEST_HEADER = 17 };
 
 static const char *const meanings[] = {
     [MTB_BAD_HEADER] = "no P6 header, or its largest value is not 255",
@@ -50,17 +50,18 @@ int finish(void)
     return EXIT_SUCCESS;
 }
 
-int read_options(int argc, char **argv, size_t count, uint32_t *settings)
+int read_options(int argc, char **argv, const char *known, uint32_t *settings)
 {
-    static const char letters[] = "stpr";
+    static const char letters[] = "stpra";    /* in the order of enum setting */
     int place = 1;
     for (; place < argc && argv[place][0] == '-'; place += 2) {
-        const char *letter = memchr(letters, argv[place][1], count), *number = place + 1 < argc ? argv[place + 1] : "";
+        const char *number = place + 1 < argc ? argv[place + 1] : "";
         size_t digits = strspn(number, "0123456789");
-        if (letter == NULL || strlen(argv[place]) != 2 || digits == 0 || digits > MOST_DIGITS || number[digits] != '\0') {
+        if (strlen(argv[place]) != 2 || strchr(known, argv[place][1]) == NULL || digits == 0 || digits > MOST_DIGITS
+            || number[digits] != '\0') {
             return 0;
         }
-        settings[letter - letters] = (uint32_t)strtoul(number, NULL, 10);
+        settings[strchr(letters, argv[place][1]) - letters] = (uint32_t)strtoul(number, NULL, 10);
     }
     return place;
 }
@@ -118,4 +119,13 @@ void write_file(const char *name, const uint8_t *bytes, size_t length)
     if (fclose(stream) != 0 || written != length) {
         fail(name, strerror(errno));
     }
+}
+
+void write_p6(const char *name, uint32_t w, uint32_t h, const uint8_t *raster)
+{
+    size_t bytes = (size_t)3 * w * h, written;
+    uint8_t *file = lend(LONGEST_HEADER + bytes, 1);
+    insist(name, mtb_p6_write(w, h, raster, bytes, file, LONGEST_HEADER + bytes, &written));
+    write_file(name, file, written);
+    free(file);
 }

@@ -5,14 +5,14 @@
 #include <stddef.h>
 #include <stdint.h>
 
-enum setting { HALVINGS, TOLERANCE, PERCENTILE, REFERENCE };    /* options -s, -t, -p, -r */
+enum setting { HALVINGS, TOLERANCE, PERCENTILE, REFERENCE, ANGLE };    /* options -s, -t, -p, -r, -a */
 
 /* A setting that no option gives: an option's number has nine digits at most. */
 #define NOT_GIVEN UINT32_MAX
 
-/* Reads options such as "-t 4" for the first `count` settings. Gives the place of the first argument that is no option, or 0
+/* Reads options such as "-t 4", of those whose letters are known. Gives the place of the first argument that is no option, or 0
  * when an option is unknown or its number is none. */
-int read_options(int argc, char **argv, size_t count, uint32_t *settings);
+int read_options(int argc, char **argv, const char *known, uint32_t *settings);
 
 /* Five halvings, for moves of up to 63 pixels each way, or as many as leave sides of 8 pixels: fewer decide by chance. */
 uint32_t fitting_halvings(uint32_t w, uint32_t h);
@@ -29,6 +29,7 @@ struct file {
 
 struct file read_file(const char *name);
 void write_file(const char *name, const uint8_t *bytes, size_t length);
+void write_p6(const char *name, uint32_t w, uint32_t h, const uint8_t *raster);
 
 /* Ends the program, with the refusal in words, unless the library accepted `what`. */
 void insist(const char *what, uint32_t refusal);

@@ -14,7 +14,7 @@
 #include "desktop.h"
 #include "mtb.h"
 
-enum { MOST_COUNTS = 9 * 9, LONGEST_HEADER = 17, CHANNELS = 3, BLACK = 0, WHITE = 255, RED = 160 };
+enum { MOST_COUNTS = 9 * 9, CHANNELS = 3, BLACK = 0, WHITE = 255, RED = 160 };
 
 struct size {
     uint32_t w, h;
@@ -99,13 +99,10 @@ static uint64_t *difference(const struct frame *first, const struct frame *secon
 
 static void write_picture(const char *folder, const char *name, const struct size *size, const uint8_t *raster)
 {
-    size_t path_len = strlen(folder) + strlen(name) + sizeof "/.ppm", room = LONGEST_HEADER + size->bytes, written;
+    size_t path_len = strlen(folder) + strlen(name) + sizeof "/.ppm";
     char *path = lend(path_len, 1);
-    uint8_t *file = lend(room, 1);
     snprintf(path, path_len, "%s/%s.ppm", folder, name);
-    insist(path, mtb_p6_write(size->w, size->h, raster, size->bytes, file, room, &written));
-    write_file(path, file, written);
-    free(file);
+    write_p6(path, size->w, size->h, raster);
     free(path);
 }
 
@@ -160,7 +157,7 @@ static void paint_over(const char *folder, const char *name, const struct size *
 int main(int argc, char **argv)
 {
     uint32_t settings[] = {[HALVINGS] = NOT_GIVEN, [TOLERANCE] = 0, [PERCENTILE] = 50};
-    int files = read_options(argc, argv, 3, settings);
+    int files = read_options(argc, argv, "stp", settings);
     if (files == 0 || argc - files != 3) {
         fputs("usage: pictures [-s HALVINGS] [-t TOLERANCE] [-p PERCENTILE] FIRST SECOND FOLDER\n", stderr);
         return 2;

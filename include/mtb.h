@@ -16,8 +16,8 @@
  *
  * SETTINGS
  *   s           halvings, 0 to 8. Frames are aligned on s + 1 levels, each half as wide and high as the
- *               one before. Both sides must be 2^(s+2) at least; a pair's offset reaches 2^(s+1) - 1
- *               pixels each way.
+ *               one before. Both sides must be 2^(s+2) at least (mtb_quadrants: a quadrant's sides); a
+ *               pair's offset reaches 2^(s+1) - 1 pixels each way.
  *   tolerance   0 to 64. Pixels whose grey value is that close to the threshold are left out.
  *   percentile  17, 50 or 83: where the threshold lies among a frame's grey values; 50 is the median.
  *
@@ -47,6 +47,7 @@
  *   Bytes, with stacked arguments and return address:
  *     mtb_pair, mtb_pair_ward        6152 + 416*s, so 9480 at most     mtb_threshold    4160
  *     mtb_series, mtb_series_ward    6408 + 416*s, so 9736 at most     mtb_difference   1040
+ *     mtb_quadrants                  6664 + 416*s, so 9992 at most
  *     every other function: below 400
  *   Measured, not proved (tests/outside/run stack): each call was run on a painted stack, and the deepest changed
  *   byte was looked for, over frames from 1 by 1 to 4096 by 4096 with every s that they allow and
@@ -74,7 +75,7 @@ enum mtb_refusal {
     MTB_BAD_HEADER = 1,      /* the file has no P6 header, or one with a largest value other than 255 */
     MTB_BAD_SIZE = 2,        /* a width or height is 0 or above 4096 */
     MTB_BAD_HALVINGS = 3,    /* s is above 8 */
-    MTB_TOO_SMALL = 4,       /* a side is below 2^(s+2), or for mtb_halve below 2 */
+    MTB_TOO_SMALL = 4,       /* a side (of a quadrant, for mtb_quadrants) is below 2^(s+2), for mtb_halve below 2 */
     MTB_BAD_TOLERANCE = 5,   /* the tolerance is above 64 */
     MTB_BAD_FRAMES = 6,      /* the number of frames is 0 or above 16 */
     MTB_BAD_REFERENCE = 7,   /* the reference is not below the number of frames */
@@ -219,9 +220,30 @@ uint32_t mtb_series_ward(uint32_t w, uint32_t h, uint32_t s, uint32_t tolerance,
                          uint64_t *words, size_t words_len);
 
 /*
- * The work memory of these four. Bytes of grey: twice the pixels of all levels. Words of
- * 64 bits: 6*W*h. For 1920 by 1080 and s = 6 that is 5529000 bytes and 194400 words; the most, for
- * 4096 by 4096 and s = 8, is 44739072 bytes and 1572864 words.
+ * A warning of field rotation, as a mount with poor polar alignment causes it: the four quadrants of
+ * both frames are aligned, each by itself. Each is w/2 by h/2 pixels, rounded down. The left ones begin
+ * at column 0, the right ones at w - w/2, the upper ones at row 0, the lower ones at h - h/2: an odd
+ * middle column or row belongs to none. A quadrant's offset is the one that mtb_pair gives for the same
+ * pixels, cropped out of both rasters. docs/ACCURACY.md tells when to trust the warning.
+ * offsets: 8 numbers, dx and dy of the upper left, upper right, lower left and lower right quadrant.
+ * *turned: true exactly when two of the four offsets, any two, differ by more than 1 in dx or in dy.
+ * grey, words: work memory, as long as mtb_grey_needed(w/2, h/2, s) and mtb_words_needed(w/2, h/2, s)
+ * tell, or longer; what it holds afterwards means nothing. Refusals: 2, 3, 4, 5, 8, 9, 10, 11. Of these
+ * 4 and 11 look at a quadrant (so a side of the frame must be 2^(s+3) at least), 2 and 9 at the frame.
+ */
+uint32_t mtb_quadrants(uint32_t w, uint32_t h, uint32_t s, uint32_t tolerance, uint32_t percentile,
+                       const uint8_t *first, size_t first_len,
+                       const uint8_t *second, size_t second_len,
+                       int32_t *offsets, size_t offsets_len,
+                       bool *turned,
+                       uint8_t *grey, size_t grey_len,
+                       uint64_t *words, size_t words_len);
+
+/*
+ * The work memory of these five; of mtb_quadrants with a quadrant's w/2 and h/2 for w and h. Bytes of
+ * grey: twice the pixels of all levels. Words of 64 bits: 6*W*h. For 1920 by 1080 and s = 6 that is
+ * 5529000 bytes and 194400 words; the most, for 4096 by 4096 and s = 8, is 44739072 bytes and 1572864
+ * words.
  * These two return 0 where refusal 2, 3 or 4 applies to w, h and s.
  */
 size_t mtb_grey_needed(uint32_t w, uint32_t h, uint32_t s);

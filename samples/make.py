@@ -1,6 +1,8 @@
 #!/usr/bin/env python3
 """Writes first.ppm, second.ppm and third.ppm beside this file: three exposures of a cratered ground in slanting light.
 
+    make.py [FOLDER WIDTH HEIGHT]     larger frames of more ground, which are not kept in the repository, into that folder
+
 Each is exposed longer than the one before (another tone curve, noise of its own), and the camera has slid in between:
 moving the second frame right by 5 and up by 3 puts it onto the first, so `bracket` should print `offset 5 -3`; moving the
 third one left by 4 and down by 6 does.
@@ -9,12 +11,15 @@ The seed is fixed: every run writes the same bytes.
 import math
 import os
 import random
+import sys
 
-WIDTH, HEIGHT = 160, 120
+FOLDER, WIDTH, HEIGHT = os.path.dirname(os.path.abspath(__file__)), 160, 120
+if len(sys.argv) > 1:
+    FOLDER, WIDTH, HEIGHT = sys.argv[1], int(sys.argv[2]), int(sys.argv[3])
 MOVE = (5, -3)  # moves the second frame onto the first
 THIRD_MOVE = (-4, 6)  # moves the third one there
 MARGIN = 8  # ground beyond the frame on each side, so that both frames see ground everywhere
-CRATERS = 70
+CRATERS = WIDTH * HEIGHT * 7 // 1920  # 70 on the frames kept here
 NOISE = 2.0  # standard deviation, in grey steps
 
 rng = random.Random(1994)
@@ -80,7 +85,7 @@ def exposed(light, dx, dy, exposure, gamma):
 
 
 def write(name, raster):
-    with open(os.path.join(os.path.dirname(os.path.abspath(__file__)), name), "wb") as file:
+    with open(os.path.join(FOLDER, name), "wb") as file:
         file.write(b"P6\n%d %d\n255\n" % (WIDTH, HEIGHT) + raster)
 
 

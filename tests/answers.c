@@ -45,6 +45,14 @@ static void fit_series(struct vector *v, size_t raster, size_t s)
     v->out[1] = v->out[2] = pairs * 9 * (s + 1);
 }
 
+/* Inputs are those of the frame, work memory that of a quadrant. */
+static void fit_quadrants(struct vector *v, uint32_t w, uint32_t h, uint32_t s)
+{
+    v->out[0] = 8;
+    v->out[1] = 0;
+    fit_memory(v, w / 2, h / 2, s);
+}
+
 void fit_lengths(struct vector *v)
 {
     uint32_t w = 0 < v->w && v->w <= MAX_SIDE ? v->w : SMALL_SIDE;
@@ -65,6 +73,8 @@ void fit_lengths(struct vector *v)
     fit_memory(v, w, h, s);
     if (is_series(v->call))
         fit_series(v, raster, s);
+    if (is_quadrants(v->call))
+        fit_quadrants(v, w, h, s);
     if (v->call == CALL_AREA)
         v->in[0].length = 2 * least(v->n, MAX_N);
 }
@@ -224,6 +234,15 @@ static void answer_series_ward(const struct vector *v, struct answer *a)
     ask_series(ref_series_ward, v, a);
 }
 
+static void answer_quadrants(const struct vector *v, struct answer *a)
+{
+    bool turned = false;
+    int32_t *offsets = hold(a, 0, lent_offsets(v->out[0]), 4 * v->out[0], true);
+    a->refusal = ref_quadrants(v->w, v->h, v->s, v->tolerance, v->percentile, v->in[0].data, v->in[0].length, v->in[1].data,
+                               v->in[1].length, offsets, v->out[0], &turned, NULL, v->grey, NULL, v->words);
+    a->values[0] = turned;
+}
+
 static void answer_p6_read(const struct vector *v, struct answer *a)
 {
     size_t start = 0, length = 0;
@@ -287,7 +306,8 @@ struct answer answer_of(const struct vector *v)
         [CALL_MOVED] = answer_moved,         [CALL_BLINK] = answer_blink,
         [CALL_BRACKET] = answer_bracket,     [CALL_PAIR_WARD] = answer_pair_ward,
         [CALL_SERIES_WARD] = answer_series_ward, [CALL_MADE_PAIR_WARD] = answer_pair_ward,
-        [CALL_MADE_SERIES_WARD] = answer_series_ward,
+        [CALL_MADE_SERIES_WARD] = answer_series_ward, [CALL_QUADRANTS] = answer_quadrants,
+        [CALL_MADE_QUADRANTS] = answer_quadrants,
     };
     struct answer a = { 0 };
     answers[v->call](v, &a);

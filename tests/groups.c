@@ -5,6 +5,7 @@
 
 uint8_t noise[NOISE_BYTES], ties[NOISE_BYTES];
 uint64_t noise_words[NOISE_WORDS];
+const uint32_t all_percentiles[3] = { 17, 50, 83 };
 
 void must(bool holds, const char *what)
 {
@@ -34,6 +35,22 @@ void keep_noise(void)
 uint32_t one_of(const uint32_t *numbers, int count)
 {
     return numbers[random_below((uint32_t)count)];
+}
+
+/* ---- Frames ---- */
+
+uint8_t *bracket_of(uint32_t w, uint32_t h, uint32_t n, int32_t reach)
+{
+    size_t size = (size_t)3 * w * h;
+    uint8_t *rasters = malloc(n * size + 1);
+    struct scene scene = random_scene(w, h);
+    for (uint32_t k = 0; k < n; k++) {
+        struct exposure by = { random_between(-reach, reach), random_between(-reach, reach), random_between(40, 90),
+                               random_between(-20, 20), (int32_t)random_below(3) };
+        expose(&scene, by, w, h, rasters + k * size);
+    }
+    rasters[n * size] = 0; /* one byte more, for a slice that is too long */
+    return rasters;
 }
 
 /* ---- Moves ---- */
@@ -96,6 +113,12 @@ void break_size(struct vector *v)
         v->h = side;
 }
 
+void break_halvings(struct vector *v)
+{
+    static const uint32_t bad[] = { 9, 10, 31, 32, 64, 256, 0xFFFFFFFF };
+    v->s = one_of(bad, COUNT_OF(bad));
+}
+
 void break_tolerance(struct vector *v)
 {
     static const uint32_t bad[] = { 65, 66, 128, 256, 256 + 64, 65536, 0xFFFFFFFF };
@@ -111,7 +134,7 @@ void break_percentile(struct vector *v)
 /* Lengths one off, and an empty slice. */
 void break_input(struct vector *v)
 {
-    uint32_t inputs = v->call == CALL_DIFFERENCE ? 4 : is_pair(v->call) || v->call == CALL_BLINK ? 2 : 1;
+    uint32_t inputs = v->call == CALL_DIFFERENCE ? 4 : takes_two(v->call) ? 2 : 1;
     struct slice *slice = &v->in[is_series(v->call) ? 1 : random_below(inputs)];
     uint32_t which = random_below(5);
     if (which > 2 || slice->length == 0)
@@ -130,6 +153,22 @@ void break_output(struct vector *v)
     for (uint32_t i = 0; i < outputs; i++)
         if (i == chosen || random_below(3) == 0)
             v->out[i] = v->out[i] > 0 && random_below(4) ? v->out[i] - 1 : 0;
+}
+
+void break_memory(struct vector *v)
+{
+    uint32_t which = random_below(4);
+    if (which == 0)
+        v->grey = v->words = 0;
+    if (which == 1 || which == 3)
+        v->grey -= 1;
+    if (which == 2 || which == 3)
+        v->words -= 1;
+}
+
+size_t length_of(enum fit fit, size_t needed, size_t excess)
+{
+    return fit == SHORT ? needed - 1 : fit == FITTING ? needed : needed + excess;
 }
 
 /* ---- Refusals in every order ---- */

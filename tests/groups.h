@@ -12,6 +12,7 @@ void frame_groups(uint64_t seed);
 void bitmap_groups(uint64_t seed);
 void pair_groups(uint64_t seed);
 void series_groups(uint64_t seed);
+void quadrant_groups(uint64_t seed);
 void p6_groups(uint64_t seed);
 void view_groups(uint64_t seed);
 void bracket_groups(uint64_t seed);
@@ -36,13 +37,24 @@ void add_subsets(struct vector good, const struct breaker *breakers, int count, 
 
 /* Breakers that several calls share. */
 void break_size(struct vector *v);
+void break_halvings(struct vector *v);
 void break_tolerance(struct vector *v);
 void break_percentile(struct vector *v);
 void break_input(struct vector *v);
 void break_output(struct vector *v);
+void break_memory(struct vector *v);
+
+/* A lent length that is one short, just enough, or longer by an excess. */
+enum fit { SHORT, FITTING, LONGER, FITS };
+size_t length_of(enum fit fit, size_t needed, size_t excess);
+
+extern const uint32_t all_percentiles[3];
 
 /* One of these numbers, at random. */
 uint32_t one_of(const uint32_t *numbers, int count);
+
+/* n frames of one scene, each moved and exposed otherwise, one raster after another, and a byte more. */
+uint8_t *bracket_of(uint32_t w, uint32_t h, uint32_t n, int32_t reach);
 
 /* Moves around a side: none, one, a word, the whole side, the extremes of 32 bits. */
 enum { MOVES = 21 };

@@ -6,8 +6,6 @@
 #include <stdlib.h>
 #include <string.h>
 
-static const uint32_t all_percentiles[] = { 17, 50, 83 };
-
 /* ---- The two orders ---- */
 
 /* How the calls choose among equal counts. Every group is made for both, of the same frames. */
@@ -69,24 +67,7 @@ static bool add_ordered(const struct vector *v)
     return order_decides(v);
 }
 
-/* ---- Rasters ---- */
-
 enum { MOST_FRAMES = 16 };
-
-/* Frames of one scene, each moved and exposed otherwise, one raster after another. */
-static uint8_t *bracket_of(uint32_t w, uint32_t h, uint32_t n, int32_t reach)
-{
-    size_t size = (size_t)3 * w * h;
-    uint8_t *rasters = malloc(n * size + 1);
-    struct scene scene = random_scene(w, h);
-    for (uint32_t k = 0; k < n; k++) {
-        struct exposure by = { random_between(-reach, reach), random_between(-reach, reach), random_between(40, 90),
-                               random_between(-20, 20), (int32_t)random_below(3) };
-        expose(&scene, by, w, h, rasters + k * size);
-    }
-    rasters[n * size] = 0; /* one byte more, for a slice that is too long */
-    return rasters;
-}
 
 /* ---- Pair ---- */
 
@@ -152,13 +133,6 @@ static void pair_settings(void)
     free(rasters);
 }
 
-enum fit { SHORT, FITTING, LONGER, FITS };
-
-static size_t length_of(enum fit fit, size_t needed, size_t excess)
-{
-    return fit == SHORT ? needed - 1 : fit == FITTING ? needed : needed + excess;
-}
-
 /* Outputs and work memory just short, just enough, and longer, in every combination. */
 static void pair_lengths(void)
 {
@@ -179,12 +153,6 @@ static void pair_lengths(void)
     free(rasters);
 }
 
-static void break_halvings(struct vector *v)
-{
-    static const uint32_t bad[] = { 9, 10, 31, 32, 64, 256, 0xFFFFFFFF };
-    v->s = one_of(bad, COUNT_OF(bad));
-}
-
 /* A side one below the least for s = 1; where the size is refused already, a side that is good. */
 static void break_least_side(struct vector *v)
 {
@@ -194,17 +162,6 @@ static void break_least_side(struct vector *v)
         v->w = 7;
     if (height && (which != 1 || !width))
         v->h = 7;
-}
-
-static void break_memory(struct vector *v)
-{
-    uint32_t which = random_below(4);
-    if (which == 0)
-        v->grey = v->words = 0;
-    if (which == 1 || which == 3)
-        v->grey -= 1;
-    if (which == 2 || which == 3)
-        v->words -= 1;
 }
 
 static void pair_refusals(void)

@@ -24,6 +24,8 @@ int main(int argc, char **argv)
     end_file(crates, "vectors_pair");
     series_groups(seed);
     end_file(crates, "vectors_series");
+    quadrant_groups(seed);
+    end_file(crates, "vectors_quadrants");
     p6_groups(seed);
     view_groups(seed);
     end_file(crates, "vectors_files");

@@ -1,4 +1,4 @@
-/* Document 01 and Papers 1 to 3 of document 02, pixel by pixel. Sentences in quotation marks are the documents'. */
+/* Document 01 and Papers 1 to 4 of document 02, pixel by pixel. Sentences in quotation marks are the documents'. */
 #include "reference.h"
 
 #include <stdio.h>
@@ -11,14 +11,16 @@ enum {
     MAX_FRAMES = 16,
     WORD_BITS = 64,
     CANDIDATES = 9,
+    QUADRANTS = 4,
     MAX_DIGITS = 9,
     LARGEST_VALUE = 255,
     MIN_AREA_OFFSET = -32768,
     MAX_AREA_OFFSET = 32767,
+    MOST_COUNTS = CANDIDATES * (MAX_HALVINGS + 1),
     BRACKET_FILE = 65536,
     BRACKET_GREY = 65536,
     BRACKET_WORDS = 8192,
-    BRACKET_COUNTS = CANDIDATES * (MAX_HALVINGS + 1),
+    BRACKET_COUNTS = MOST_COUNTS,
 };
 
 /* A grey frame: "one byte a pixel", rows from the top. */
@@ -443,6 +445,50 @@ static struct offset frame_offset(const struct offset d[MAX_FRAMES], uint32_t r,
     return sum;
 }
 
+/* ---- Quadrants ---- */
+
+/* Where the first or the second half of a side begins: "each floor(w/2) by floor(h/2), the odd middle column or row left out" */
+static uint32_t half_start(uint32_t side, bool second)
+{
+    return second ? side - side / 2 : 0;
+}
+
+/* The pixels of a quadrant as a raster of its own. "upper left, upper right, lower left, lower right" are 0 to 3. */
+static uint8_t *cropped(uint32_t w, uint32_t h, int quadrant, const uint8_t *raster)
+{
+    uint32_t left = half_start(w, quadrant % 2 == 1), top = half_start(h, quadrant >= 2);
+    uint8_t *crop = memory(raster_bytes(w / 2, h / 2)), *to = crop;
+    for (uint32_t y = top; y < top + h / 2; y++)
+        for (uint32_t x = left; x < left + w / 2; x++)
+            for (int c = 0; c < 3; c++)
+                *to++ = raster[3 * ((size_t)y * w + x) + c];
+    return crop;
+}
+
+/* "A quadrant's offset equals that of the same pixels cropped and aligned as a pair": by the new order. "no counts" */
+static struct offset quadrant_offset(uint32_t w, uint32_t h, uint32_t s, uint32_t tolerance, uint32_t percentile, int quadrant,
+                                     const uint8_t *first, const uint8_t *second)
+{
+    uint32_t counts[MOST_COUNTS], compared[MOST_COUNTS];
+    uint8_t *crop1 = cropped(w, h, quadrant, first), *crop2 = cropped(w, h, quadrant, second);
+    struct offset found = align_rasters(least_move, w / 2, h / 2, s, tolerance, percentile, crop1, crop2,
+                                        (struct tallies){ counts, compared });
+    free(crop1);
+    free(crop2);
+    return found;
+}
+
+/* "say "turned" exactly when two of them differ by more than 1 on an axis" */
+bool ref_turned(const int32_t offsets[2 * QUADRANTS])
+{
+    for (int one = 0; one < QUADRANTS; one++)
+        for (int other = one + 1; other < QUADRANTS; other++)
+            for (int axis = 0; axis < 2; axis++)
+                if (llabs((long long)offsets[2 * one + axis] - offsets[2 * other + axis]) > 1)
+                    return true;
+    return false;
+}
+
 /* ---- The calls on frames and bitmaps ---- */
 
 uint32_t ref_grey(uint32_t w, uint32_t h, const uint8_t *raster, size_t raster_len, uint8_t *grey, size_t grey_len)
@@ -686,6 +732,47 @@ uint32_t ref_series_ward(uint32_t w, uint32_t h, uint32_t s, uint32_t tolerance,
     (void)words;
     return series_by(wards_order, w, h, s, tolerance, n, r, percentiles, percentiles_len, rasters, rasters_len, offsets,
                      offsets_len, counts, counts_len, compared, compared_len, grey_len, words_len);
+}
+
+/* "Refusal 4 and the work memory look at a quadrant's size." The others look at the frame. */
+static uint32_t quadrants_refusal(uint32_t w, uint32_t h, uint32_t s, uint32_t tolerance, uint32_t percentile, size_t first_len,
+                                  size_t second_len, size_t offsets_len, size_t grey_len, size_t words_len)
+{
+    if (bad_size(w, h))
+        return 2;
+    if (s > MAX_HALVINGS)
+        return 3;
+    if (too_small(w / 2, h / 2, s))
+        return 4;
+    if (tolerance > MAX_TOLERANCE)
+        return 5;
+    if (bad_percentile(percentile))
+        return 8;
+    if (first_len != raster_bytes(w, h) || second_len != raster_bytes(w, h))
+        return 9;
+    if (offsets_len < 2 * QUADRANTS)
+        return 10;
+    if (short_memory(w / 2, h / 2, s, grey_len, words_len))
+        return 11;
+    return 0;
+}
+
+uint32_t ref_quadrants(uint32_t w, uint32_t h, uint32_t s, uint32_t tolerance, uint32_t percentile, const uint8_t *first,
+                       size_t first_len, const uint8_t *second, size_t second_len, int32_t *offsets, size_t offsets_len,
+                       bool *turned, uint8_t *grey, size_t grey_len, uint64_t *words, size_t words_len)
+{
+    (void)grey;
+    (void)words;
+    uint32_t refusal = quadrants_refusal(w, h, s, tolerance, percentile, first_len, second_len, offsets_len, grey_len, words_len);
+    if (refusal)
+        return refusal;
+    for (int quadrant = 0; quadrant < QUADRANTS; quadrant++) {
+        struct offset found = quadrant_offset(w, h, s, tolerance, percentile, quadrant, first, second);
+        offsets[2 * quadrant] = (int32_t)found.dx;
+        offsets[2 * quadrant + 1] = (int32_t)found.dy;
+    }
+    *turned = ref_turned(offsets);
+    return 0;
 }
 
 size_t ref_grey_needed(uint32_t w, uint32_t h, uint32_t s)

@@ -1,4 +1,4 @@
-/* An independent implementation of document 01 and document 02, Papers 1 to 3, written straight from their text, pixel by pixel.
+/* An independent implementation of document 01 and document 02, Papers 1 to 4, written straight from their text, pixel by pixel.
  *
  * It shares no code with the library and is meant to be read beside the documents: bitmaps are read and written a bit at a
  * time, differences are counted over single pixels, a threshold is found by counting, and speed does not matter.
@@ -56,6 +56,14 @@ uint32_t ref_series_ward(uint32_t w, uint32_t h, uint32_t s, uint32_t tolerance,
                          int32_t *offsets, size_t offsets_len, uint32_t *counts, size_t counts_len, uint32_t *compared,
                          size_t compared_len, uint8_t *grey, size_t grey_len, uint64_t *words, size_t words_len);
 
+/* The offsets of the four quadrants, each by the least move, and whether the second frame is turned. */
+uint32_t ref_quadrants(uint32_t w, uint32_t h, uint32_t s, uint32_t tolerance, uint32_t percentile, const uint8_t *first,
+                       size_t first_len, const uint8_t *second, size_t second_len, int32_t *offsets, size_t offsets_len,
+                       bool *turned, uint8_t *grey, size_t grey_len, uint64_t *words, size_t words_len);
+
+/* Whether quadrants with these offsets, dx and dy of each, are turned. */
+bool ref_turned(const int32_t offsets[8]);
+
 uint32_t ref_p6_size(const uint8_t *file, size_t file_len, uint32_t *w, uint32_t *h);
 
 /* The raster as a part of the file: where it begins, and how many bytes it has. */
@@ -75,7 +83,8 @@ uint32_t ref_moved(uint32_t w, uint32_t h, int32_t dx, int32_t dy, const uint8_t
 uint32_t ref_blink_row(uint32_t w, uint32_t h, uint32_t y, bool second, const uint8_t *first_raster, size_t first_len,
                        const uint8_t *second_raster, size_t second_len, size_t *start, size_t *length);
 
-/* Work memory of pair and series: bytes, and 64-bit words; 0 when the sizes or s are refused. */
+/* Work memory of pair and series, and of quadrants with a quadrant's size: bytes, and 64-bit words; 0 when the sizes or s are
+ * refused. */
 size_t ref_grey_needed(uint32_t w, uint32_t h, uint32_t s);
 size_t ref_words_needed(uint32_t w, uint32_t h, uint32_t s);
 

@@ -1,6 +1,6 @@
 /* The reference itself against what documents 01 and 02 print: their worked examples, also those that the library proves, and the
- * table of numbers; and a tie, compared numbers and comments worked by hand. Prints what it compared; exit status 1 when something
- * differs. */
+ * table of numbers; and a tie, compared numbers, comments and quadrants worked by hand. Prints what it compared; exit status 1 when
+ * something differs. */
 #include "reference.h"
 
 #include <stdio.h>
@@ -358,6 +358,149 @@ static void check_written_comments(void)
                                           length == 6 && memcmp(file + start, raster, 6) == 0);
 }
 
+/* ---- Quadrants ---- */
+
+/* What a quadrant of 4 by 4 shows: one frame twice, or the printed case, which by the least move goes (-1,0); with its frames
+ * exchanged it goes the other way, and with rows and columns exchanged along the other axis. */
+enum show { STILL, LEFT, RIGHT, UP, DOWN, SHOWS };
+
+static const int32_t moves_of[SHOWS][2] = { { 0, 0 }, { -1, 0 }, { 1, 0 }, { 0, -1 }, { 0, 1 } };
+
+static uint8_t shown_tone(enum show show, bool second, uint32_t x, uint32_t y)
+{
+    bool shifted = show == STILL ? false : show == LEFT || show == UP ? second : !second;
+    uint32_t place = show == UP || show == DOWN ? 4 * x + y : 4 * y + x;
+    return printed_tones[(shifted ? printed_second : printed_first)[place] - 'a'];
+}
+
+/* A raster of 8 or 9 by 8 or 9. Columns 0 to 3 are the left quadrants', the last four the right ones'; column 4 of nine is nobody's
+ * and has the middle tone. Rows likewise. */
+static void four_shown(uint32_t w, uint32_t h, const enum show shows[4], bool second, uint8_t middle, uint8_t *raster)
+{
+    memset(raster, middle, (size_t)3 * w * h);
+    for (uint32_t y = 0; y < 4; y++)
+        for (uint32_t x = 0; x < 4; x++) {
+            const uint32_t places[4] = { y * w + x, y * w + w - 4 + x, (h - 4 + y) * w + x, (h - 4 + y) * w + w - 4 + x };
+            for (int q = 0; q < 4; q++)
+                memset(raster + 3 * places[q], shown_tone(shows[q], second, x, y), 3);
+        }
+}
+
+/* Just the memory of a quadrant, and eight offsets of ten. */
+static bool quadrants_give(uint32_t w, uint32_t h, const enum show shows[4], const uint8_t middles[2], bool turned)
+{
+    uint8_t first[3 * 81], second[3 * 81];
+    int32_t offsets[10] = { 99, 99, 99, 99, 99, 99, 99, 99, 99, 99 };
+    bool told = !turned, right = true;
+    four_shown(w, h, shows, false, middles[0], first);
+    four_shown(w, h, shows, true, middles[1], second);
+    uint32_t bytes = 3 * w * h;
+    uint32_t number = ref_quadrants(w, h, 0, 0, 50, first, bytes, second, bytes, offsets, 10, &told, NULL, 2 * 16, NULL, 6 * 4);
+    for (int q = 0; q < 4; q++)
+        right = right && offsets[2 * q] == moves_of[shows[q]][0] && offsets[2 * q + 1] == moves_of[shows[q]][1];
+    return number == 0 && right && offsets[8] == 99 && offsets[9] == 99 && told == turned;
+}
+
+/* In every size, whatever the middle column and row show. */
+static void expect_quadrants(const char *what, const enum show shows[4], bool turned)
+{
+    static const uint8_t middles[][2] = { { 0, 0 }, { 255, 0 }, { 0, 255 }, { 20, 90 } };
+    bool give = true;
+    for (uint32_t w = 8; w <= 9; w++)
+        for (uint32_t h = 8; h <= 9; h++)
+            for (int m = 0; m < 4; m++)
+                give = give && quadrants_give(w, h, shows, middles[m], turned);
+    expect(what, give);
+}
+
+/* Two of the quadrants show these, the others one frame twice. */
+static void expect_two(const char *what, enum show one, enum show other, bool turned)
+{
+    for (int i = 0; i < 4; i++)
+        for (int k = 0; k < 4; k++)
+            if (i != k) {
+                enum show shows[4] = { STILL, STILL, STILL, STILL };
+                shows[i] = one;
+                shows[k] = other;
+                expect_quadrants(what, shows, turned);
+            }
+}
+
+static void check_quadrants(void)
+{
+    expect_quadrants("nothing moves", (const enum show[4]){ STILL, STILL, STILL, STILL }, false);
+    expect_quadrants("upper left, upper right, lower left, lower right", (const enum show[4]){ LEFT, UP, RIGHT, DOWN }, true);
+    expect_quadrants("all move alike", (const enum show[4]){ LEFT, LEFT, LEFT, LEFT }, false);
+    expect_quadrants("1 apart on both axes", (const enum show[4]){ LEFT, UP, UP, LEFT }, false);
+    expect_two("two quadrants 2 apart across", LEFT, RIGHT, true);
+    expect_two("two quadrants 2 apart down", UP, DOWN, true);
+    expect_two("two quadrants 1 apart on both axes", LEFT, DOWN, false);
+    expect_two("one quadrant 1 apart", STILL, UP, false);
+    uint8_t flat[3 * 32 * 32];
+    int32_t offsets[8] = { 9, 9, 9, 9, 9, 9, 9, 9 }, still[8] = { 0 };
+    bool turned = true;
+    memset(flat, 77, sizeof flat);
+    expect("a flat frame with s = 2: (0,0) four times",
+           ref_quadrants(32, 32, 2, 0, 50, flat, sizeof flat, flat, sizeof flat, offsets, 8, &turned, NULL, 672, NULL, 96) == 0 &&
+               memcmp(offsets, still, sizeof still) == 0 && !turned);
+}
+
+static bool turned_by(int32_t x1, int32_t y1, int32_t x2, int32_t y2, int32_t x3, int32_t y3, int32_t x4, int32_t y4)
+{
+    return ref_turned((const int32_t[8]){ x1, y1, x2, y2, x3, y3, x4, y4 });
+}
+
+/* "exactly when two of them differ by more than 1 on an axis" */
+static void check_turned(void)
+{
+    expect("all alike", !turned_by(0, 5, 0, 5, 0, 5, 0, 5) && !turned_by(-511, 511, -511, 511, -511, 511, -511, 511));
+    expect("1 apart everywhere", !turned_by(3, -4, 4, -3, 4, -4, 3, -3) && !turned_by(-1, 0, 0, -1, 0, 0, -1, -1));
+    expect("upper ones", turned_by(0, 0, 2, 0, 1, 0, 1, 0) && turned_by(7, 1, 7, -1, 7, 0, 7, 0));
+    expect("left ones", turned_by(-1, 3, 0, 3, 1, 3, 0, 3) && turned_by(0, 2, 0, 1, 0, 0, 0, 1));
+    expect("upper left and lower right", turned_by(0, 0, 1, 0, 1, 0, 2, 0) && turned_by(0, 0, 0, -1, 0, -1, 0, -2));
+    expect("upper right and lower left", turned_by(1, 0, 0, 0, 2, 0, 1, 0) && turned_by(1, 5, 1, 6, 1, 4, 1, 5));
+    expect("right ones", turned_by(1, 0, 2, 0, 1, 0, 0, 0) && turned_by(0, -1, 0, -2, 0, -1, 0, 0));
+    expect("lower ones", turned_by(0, 0, 0, 0, -1, 0, 1, 0) && turned_by(0, 0, 0, 0, 0, 1, 0, -1));
+    expect("as far as it goes", turned_by(511, 0, 511, 0, 511, 0, -511, 0));
+}
+
+/* The number of a call whose lengths are right but for what is told. */
+static uint32_t quadrants_number(uint32_t w, uint32_t h, uint32_t s, uint32_t tolerance, uint32_t percentile, int longer1,
+                                 int longer2, size_t offsets_len, size_t grey_len, size_t words_len)
+{
+    static uint8_t raster[3 * 17 * 17];
+    int32_t offsets[8];
+    bool turned;
+    size_t length = (size_t)3 * w * h;
+    return ref_quadrants(w, h, s, tolerance, percentile, raster, length + longer1, raster, length + longer2, offsets, offsets_len,
+                         &turned, NULL, grey_len, NULL, words_len);
+}
+
+static uint32_t small_number(uint32_t w, uint32_t h, uint32_t s)
+{
+    return quadrants_number(w, h, s, 0, 50, 0, 0, 8, AMPLE, AMPLE);
+}
+
+/* "Refusal 4 and the work memory look at a quadrant's size." */
+static void check_quadrants_limits(void)
+{
+    expect("a frame of 8 by 8 accepted", small_number(8, 8, 0) == 0 && small_number(9, 8, 0) == 0);
+    expect("a side of 7 refused by 4", small_number(7, 8, 0) == 4 && small_number(8, 7, 0) == 4);
+    expect("16 with s = 1 accepted", small_number(16, 16, 1) == 0 && small_number(16, 17, 1) == 0);
+    expect("15 with s = 1 refused by 4", small_number(15, 16, 1) == 4 && small_number(16, 15, 1) == 4);
+    expect("a side of 1 refused by 4", small_number(1, 8, 0) == 4 && small_number(8, 1, 0) == 4 && small_number(1, 1, 0) == 4);
+    expect("a side of 0 or 4097 refused by 2", small_number(0, 8, 9) == 2 && small_number(4097, 8, 9) == 2);
+    expect("s = 9 refused by 3", small_number(1, 1, 9) == 3);
+    expect("T = 65 refused by 5", quadrants_number(8, 8, 0, 65, 49, 0, 0, 8, AMPLE, AMPLE) == 5);
+    expect("P = 49 refused by 8", quadrants_number(8, 8, 0, 64, 49, 1, 0, 8, AMPLE, AMPLE) == 8);
+    expect("the first raster refused by 9", quadrants_number(8, 8, 0, 64, 83, 1, 0, 7, AMPLE, AMPLE) == 9);
+    expect("the second raster refused by 9", quadrants_number(8, 8, 0, 64, 83, 0, -1, 7, AMPLE, AMPLE) == 9);
+    expect("seven offsets refused by 10", quadrants_number(8, 8, 0, 64, 83, 0, 0, 7, 0, 0) == 10);
+    expect("a quadrant's memory accepted", quadrants_number(17, 17, 1, 64, 17, 0, 0, 8, 2 * (64 + 16), 6 * 8) == 0);
+    expect("short grey refused by 11", quadrants_number(17, 17, 1, 64, 17, 0, 0, 8, 2 * (64 + 16) - 1, 6 * 8) == 11);
+    expect("short words refused by 11", quadrants_number(17, 17, 1, 64, 17, 0, 0, 8, 2 * (64 + 16), 6 * 8 - 1) == 11);
+}
+
 int main(void)
 {
     check_pixels();
@@ -375,6 +518,9 @@ int main(void)
     check_no_comments();
     check_cut_comments();
     check_written_comments();
+    check_quadrants();
+    check_turned();
+    check_quadrants_limits();
     printf("reference: %d compared, %d differ\n", checked, different);
     return different ? EXIT_FAILURE : EXIT_SUCCESS;
 }

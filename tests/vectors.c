@@ -101,9 +101,20 @@ bool is_series(enum call call)
     return call == CALL_SERIES || call == CALL_MADE_SERIES || call == CALL_SERIES_WARD || call == CALL_MADE_SERIES_WARD;
 }
 
+bool is_quadrants(enum call call)
+{
+    return call == CALL_QUADRANTS || call == CALL_MADE_QUADRANTS;
+}
+
 bool is_made(enum call call)
 {
-    return call == CALL_MADE_PAIR || call == CALL_MADE_SERIES || call == CALL_MADE_PAIR_WARD || call == CALL_MADE_SERIES_WARD;
+    return call == CALL_MADE_PAIR || call == CALL_MADE_SERIES || call == CALL_MADE_PAIR_WARD || call == CALL_MADE_SERIES_WARD ||
+           call == CALL_MADE_QUADRANTS;
+}
+
+bool takes_two(enum call call)
+{
+    return is_pair(call) || is_quadrants(call) || call == CALL_BLINK;
 }
 
 /* ---- Records ---- */
@@ -115,10 +126,11 @@ static size_t element_bytes(const struct vector *v, int input)
     return words ? 8 : numbers ? 4 : 1;
 }
 
-/* The made bytes hold the rasters: both inputs of a pair, the second of a series. Their places count from the first made byte. */
+/* The made bytes hold the rasters: both inputs of a pair or of quadrants, the second of a series. Their places count from the first
+ * made byte. */
 static bool is_made_input(enum call call, int input)
 {
-    return is_made(call) && (is_pair(call) || input == 1);
+    return is_made(call) && (takes_two(call) || input == 1);
 }
 
 static uint32_t input_place(const struct vector *v, int input)
@@ -144,7 +156,7 @@ static void put_settings(const struct vector *v, uint32_t *record)
 
 static int inputs_of(enum call call)
 {
-    return call == CALL_DIFFERENCE ? 4 : call == CALL_BRACKET ? 3 : is_pair(call) || is_series(call) || call == CALL_BLINK ? 2 : 1;
+    return call == CALL_DIFFERENCE ? 4 : call == CALL_BRACKET ? 3 : takes_two(call) || is_series(call) ? 2 : 1;
 }
 
 static void put_slices(const struct vector *v, const struct answer *a, uint32_t *record)
@@ -187,7 +199,7 @@ uint32_t add(const struct vector *v)
     record[FIELD_REFUSAL] = a.refusal;
     for (int i = 0; i < MOST_VALUES; i++)
         record[FIELD_VALUES + i] = a.refusal ? 0 : a.values[i];
-    if (is_pair(v->call) || is_series(v->call))
+    if (is_pair(v->call) || is_series(v->call) || is_quadrants(v->call))
         put_memory(v, record);
     if (is_made(v->call))
         put_made(v, record);
@@ -244,7 +256,7 @@ void end_file(const char *crates, const char *program)
     fwrite(pool, 1, pool_length, file);
     if (fclose(file) != 0)
         fail(path);
-    printf("%-16s %2u groups %5u records %8u bytes\n", program, group_count, record_count, header[3]);
+    printf("%-17s %2u groups %5u records %8u bytes\n", program, group_count, record_count, header[3]);
     group_count = record_count = 0;
     pool_length = 0;
 }

@@ -29,12 +29,17 @@ enum call {
     CALL_SERIES_WARD,
     CALL_MADE_PAIR_WARD,
     CALL_MADE_SERIES_WARD,
+    CALL_QUADRANTS,
+    CALL_MADE_QUADRANTS,
 };
 
-/* In either order; pairs and series of stored frames or made ones. */
+/* In either order; pairs, series and quadrants of stored frames or made ones. */
 bool is_pair(enum call call);
 bool is_series(enum call call);
+bool is_quadrants(enum call call);
 bool is_made(enum call call);
+/* Calls that take a first and a second raster. */
+bool takes_two(enum call call);
 
 /* Numbers of a record. */
 enum field {

@@ -63,10 +63,11 @@ static void add_counts(struct trial *t, size_t needed)
     add_slice(t, OUTPUT, "compared", sizeof(uint32_t), needed);
 }
 
-static void add_work(struct trial *t)
+/* The memory of frames of these sizes. */
+static void add_work(struct trial *t, const struct numbers *n)
 {
-    add_slice(t, WORK, "grey", 1, work_grey(&t->made_for));
-    add_slice(t, WORK, "words", sizeof(uint64_t), 6 * bitmap_words(&t->made_for));
+    add_slice(t, WORK, "grey", 1, work_grey(n));
+    add_slice(t, WORK, "words", sizeof(uint64_t), 6 * bitmap_words(n));
 }
 
 static void grey_slices(struct trial *t)
@@ -116,19 +117,35 @@ static void difference_slices(struct trial *t)
     add_result(t, "compared", sizeof(uint32_t));
 }
 
-/* Both rasters show one scene. */
-static void pair_slices(struct trial *t)
+/* Both rasters, made one after the other. */
+static void add_both(struct trial *t, uint8_t *both)
 {
-    const struct numbers *n = &t->made_for;
-    size_t bytes = 3 * pixels(n);
-    uint8_t *both = make_rasters(n->w, n->h, 2), *second = memory(bytes);
+    size_t bytes = 3 * pixels(&t->made_for);
+    uint8_t *second = memory(bytes);
     memcpy(second, both + bytes, bytes);
     add_slice(t, INPUT, "first", 1, bytes)->made = both;
     add_slice(t, INPUT, "second", 1, bytes)->made = second;
+}
+
+static void pair_slices(struct trial *t)
+{
+    const struct numbers *n = &t->made_for;
+    add_both(t, make_rasters(n->w, n->h, 2));
     add_result(t, "dx", sizeof(int32_t));
     add_result(t, "dy", sizeof(int32_t));
     add_counts(t, pair_counts(n));
-    add_work(t);
+    add_work(t, n);
+}
+
+static void quadrants_slices(struct trial *t)
+{
+    struct numbers quadrant = t->made_for;
+    quadrant.w /= 2;
+    quadrant.h /= 2;
+    add_both(t, make_quartered(t->made_for.w, t->made_for.h));
+    add_slice(t, OUTPUT, "offsets", sizeof(int32_t), 8);
+    add_result(t, "turned", sizeof(bool));
+    add_work(t, &quadrant);
 }
 
 /* Where 8 is wanted there are too few or too many, or one is none. */
@@ -148,7 +165,7 @@ static void series_slices(struct trial *t)
     add_slice(t, INPUT, "rasters", 1, 3 * pixels(n) * n->n)->made = make_rasters(n->w, n->h, n->n);
     add_slice(t, OUTPUT, "offsets", sizeof(int32_t), 2 * (size_t)n->n);
     add_counts(t, pairs * pair_counts(n));
-    add_work(t);
+    add_work(t, n);
 }
 
 static void add_file(struct trial *t)
@@ -278,6 +295,11 @@ ASK(ask_series_ward)
     return ask_series_of(l->series_ward, n, a);
 }
 
+ASK(ask_quadrants)
+{
+    return l->quadrants(n->w, n->h, n->s, n->tolerance, n->percentile, SLICE(0), SLICE(1), SLICE(2), a[3].at, SLICE(4), SLICE(5));
+}
+
 ASK(ask_p6_size)
 {
     (void)n;
@@ -336,6 +358,7 @@ const struct call calls[] = {
     { "mtb_series", WANTED, series_slices, ask_series, { 2, 3, 4, 5, 6, 7, 8, 9, 10, 11 } },
     { "mtb_pair_ward", WANTED, pair_slices, ask_pair_ward, { 2, 3, 4, 5, 8, 9, 10, 11 } },
     { "mtb_series_ward", WANTED, series_slices, ask_series_ward, { 2, 3, 4, 5, 6, 7, 8, 9, 10, 11 } },
+    { "mtb_quadrants", WANTED, quadrants_slices, ask_quadrants, { 2, 3, 4, 5, 8, 9, 10, 11 } },
     { "mtb_p6_size", CHANCE, p6_size_slices, ask_p6_size, { 1, 2, 9 } },
     { "mtb_p6_raster", CHANCE, p6_raster_slices, ask_p6_raster, { 1, 2, 9 } },
     { "mtb_p6_write", WANTED, p6_write_slices, ask_p6_write, { 2, 9, 10 } },
@@ -347,3 +370,8 @@ const struct call calls[] = {
 };
 
 const int call_count = sizeof calls / sizeof *calls;
+
+bool quartered(const struct call *call)
+{
+    return call->slices == quadrants_slices;
+}

@@ -14,14 +14,14 @@ static uint64_t bytes_compared;
 
 static const struct library library = {
     mtb_grey, mtb_halve, mtb_threshold, mtb_bitmaps, mtb_shift, mtb_total, mtb_difference, mtb_pair, mtb_series, mtb_pair_ward,
-    mtb_series_ward, mtb_p6_size, mtb_p6_raster, mtb_p6_write, mtb_common_area, mtb_moved, mtb_blink_row, mtb_grey_needed,
-    mtb_words_needed,
+    mtb_series_ward, mtb_quadrants, mtb_p6_size, mtb_p6_raster, mtb_p6_write, mtb_common_area, mtb_moved, mtb_blink_row,
+    mtb_grey_needed, mtb_words_needed,
 };
 
 static const struct library reference = {
     ref_grey, ref_halve, ref_threshold, ref_bitmaps, ref_shift, ref_total, ref_difference, ref_pair, ref_series, ref_pair_ward,
-    ref_series_ward, ref_p6_size, ref_p6_raster, ref_p6_write, ref_common_area, ref_moved, ref_blink_row, ref_grey_needed,
-    ref_words_needed,
+    ref_series_ward, ref_quadrants, ref_p6_size, ref_p6_raster, ref_p6_write, ref_common_area, ref_moved, ref_blink_row,
+    ref_grey_needed, ref_words_needed,
 };
 
 /* ---- The two sides ---- */

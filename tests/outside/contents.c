@@ -120,6 +120,84 @@ uint8_t *make_rasters(uint32_t w, uint32_t h, uint32_t n)
     return rasters;
 }
 
+/* Squares of 16, 4 and 1 pixels over each other: something to see on every level, in every quadrant. */
+static void fill_squares(uint8_t *raster, uint32_t w, uint32_t h)
+{
+    uint8_t map[MAP][MAP];
+    random_fill(map[0], sizeof map);
+    for (uint32_t i = 0; i < w * h; i++) {
+        uint32_t x = i % w, y = i / w;
+        uint32_t light = map[y / 16 % MAP][x / 16 % MAP] / 3u + map[y / 4 % MAP][x / 4 % MAP] / 3u + map[y % MAP][x % MAP] / 3u;
+        memset(raster + 3 * (size_t)i, (uint8_t)light, 3);
+    }
+}
+
+/* How the pixels of a quadrant come from the first raster: moved, and darkened in both. */
+struct quarter {
+    int32_t dx, dy;
+    uint32_t shade;
+};
+
+/* Two of the quadrants 2 apart on an axis, the others between them. */
+static void part_two(struct quarter quarters[4])
+{
+    uint32_t one = random_below(4), other = (one + 1 + random_below(3)) % 4;
+    int32_t across = random_below(2), down = 1 - across;
+    quarters[one].dx -= across;
+    quarters[one].dy -= down;
+    quarters[other].dx += across;
+    quarters[other].dy += down;
+}
+
+/* Moves alike, 1 apart at most, or just two of them 2 apart; each quadrant with its own brightness. */
+static void choose_quarters(struct quarter quarters[4])
+{
+    int32_t x = random_below(2) ? 0 : random_between(-3, 3), y = random_below(2) ? 0 : random_between(-3, 3);
+    uint32_t kind = random_below(4), spread = kind == 1 ? 2 : 1, shades = 1 + random_below(2);
+    for (int q = 0; q < 4; q++)
+        quarters[q] = (struct quarter){ x + (int32_t)random_below(spread), y + (int32_t)random_below(spread), random_below(shades) };
+    if (kind > 1)
+        part_two(quarters);
+}
+
+/* The place that is moved onto this one, the nearest at an edge. */
+static uint32_t moved_from(uint32_t place, int32_t move, uint32_t side)
+{
+    int64_t from = (int64_t)place + move, last = (int64_t)side - 1;
+    return (uint32_t)(from < 0 ? 0 : from > last ? last : from);
+}
+
+static void slide_quarters(const uint8_t *first, uint32_t w, uint32_t h, const struct quarter quarters[4], uint8_t *second)
+{
+    for (uint32_t i = 0; i < w * h; i++) {
+        const struct quarter *quarter = &quarters[(i % w >= w - w / 2) + 2 * (i / w >= h - h / 2)];
+        uint32_t x = moved_from(i % w, quarter->dx, w), y = moved_from(i / w, quarter->dy, h);
+        memcpy(second + 3 * (size_t)i, first + 3 * ((size_t)y * w + x), 3);
+    }
+}
+
+static void shade_quarters(uint32_t w, uint32_t h, const struct quarter quarters[4], uint8_t *raster)
+{
+    for (uint32_t i = 0; i < 3 * w * h; i++)
+        raster[i] >>= quarters[(i / 3 % w >= w - w / 2) + 2 * (i / 3 / w >= h - h / 2)].shade;
+}
+
+uint8_t *make_quartered(uint32_t w, uint32_t h)
+{
+    size_t one = 3 * (size_t)w * h;
+    uint8_t *both = make_rasters(w, h, 2);
+    struct quarter quarters[4];
+    if (random_below(4) == 0)
+        return both;
+    if (random_below(4) > 0)
+        fill_squares(both, w, h);
+    choose_quarters(quarters);
+    slide_quarters(both, w, h, quarters, both + one);
+    shade_quarters(w, h, quarters, both);
+    shade_quarters(w, h, quarters, both + one);
+    return both;
+}
+
 /* ---- Bitmaps ---- */
 
 /* Words with few, many, half, all or no bits, those past the width included: these have to be read as 0. */

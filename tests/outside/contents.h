@@ -14,6 +14,9 @@ uint8_t *make_grey(uint32_t w, uint32_t h);
 uint8_t *make_bitmap(size_t words);
 uint8_t *make_rasters(uint32_t w, uint32_t h, uint32_t n);
 
+/* Two rasters of one scene, one after the other; often the quadrants of the second slide each for itself, by nearly the same. */
+uint8_t *make_quartered(uint32_t w, uint32_t h);
+
 /* n percentiles; where `bad`, one of them or more is none. */
 uint8_t *make_percentiles(size_t n, bool bad);
 

@@ -13,6 +13,8 @@
 
 enum { SHOWN = 10, PROGRESS_STEPS = 20, QUICK_CASES = 5, ROUNDS_FOR_ALL = 1000, MAX_CALLS = 32, NAME_ROOM = 64, PATIENCE = 300 /* seconds */ };
 
+#define COUNT_OF(list) (sizeof list / sizeof *list)
+
 /* Ordinary trials; those of a given shape, at even numbers accepted, at odd ones refused; those with a slice longer than 2^32. */
 enum family { CASE, LARGE, WIDE, FAMILIES };
 static const char *const family_names[FAMILIES] = { "case", "large", "wide" };
@@ -23,6 +25,10 @@ static const struct shape plain_shapes[] = {
 static const struct shape aligned_shapes[] = {
     { 4096, 4096, 8, 2 }, { 1024, 1024, 8, 3 }, { 1030, 1501, 8, 2 }, { 513, 640, 7, 2 }, { 4096, 16, 2, 2 }, { 19, 4096, 2, 2 },
     { 300, 257, 6, 5 },   { 256, 258, 6, 16 },
+};
+static const struct shape quartered_shapes[] = {
+    { 4096, 4096, 8, 2 }, { 2048, 2049, 8, 2 }, { 2051, 3001, 8, 2 }, { 1025, 1281, 7, 2 }, { 4096, 33, 2, 2 }, { 35, 4095, 2, 2 },
+    { 601, 515, 6, 2 },   { 512, 514, 6, 2 },
 };
 
 static struct {
@@ -103,15 +109,23 @@ static bool aligns(const struct call *call)
     return tests_refusal(call, 3) && call->plan == WANTED;
 }
 
+static const struct shape *shapes_of(const struct call *call, uint64_t *count)
+{
+    *count = quartered(call) ? COUNT_OF(quartered_shapes) : aligns(call) ? COUNT_OF(aligned_shapes) : COUNT_OF(plain_shapes);
+    return quartered(call) ? quartered_shapes : aligns(call) ? aligned_shapes : plain_shapes;
+}
+
 static uint64_t planned(const struct call *call, enum family family)
 {
+    uint64_t shapes;
     if (options.without[family])
         return 0;
     switch (family) {
     case CASE:
         return options.rounds * (aligns(call) ? 1 : QUICK_CASES);
     case LARGE:
-        return 2 * (aligns(call) ? sizeof aligned_shapes : sizeof plain_shapes) / sizeof(struct shape);
+        shapes_of(call, &shapes);
+        return 2 * shapes;
     default:
         return MAX_SLICES;
     }
@@ -120,7 +134,8 @@ static uint64_t planned(const struct call *call, enum family family)
 /* Makes the trial that is under way. False: there is none of this number. */
 static bool make(struct trial *t)
 {
-    const struct shape *shapes = aligns(now.call) ? aligned_shapes : plain_shapes;
+    uint64_t count;
+    const struct shape *shapes = shapes_of(now.call, &count);
     char name[NAME_ROOM];
     snprintf(name, sizeof name, "%s/%s/%" PRIu64, now.call->name, family_names[now.family], now.index);
     random_begin(options.seed, name);

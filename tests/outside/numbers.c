@@ -21,7 +21,7 @@ bool tests_refusal(const struct call *call, uint32_t number)
 static uint32_t least_side(const struct call *call, uint32_t s)
 {
     if (tests_refusal(call, 3))
-        return 4u << s;
+        return (quartered(call) ? 8u : 4u) << s;
     return tests_refusal(call, 4) ? 2 : 1;
 }
 

@@ -16,6 +16,7 @@ static int32_t dx, dy, offsets[2 * FRAMES];
 static const int32_t still[2 * FRAMES];
 static size_t area, bitmap_len, grey_len, words_len, start, length, written;
 static uint8_t *rasters, *grey, *out, threshold;
+static bool turned;
 static uint64_t *words, *thresholds, *exclusions, *shifted;
 
 static void call_nothing(void) {}
@@ -41,6 +42,10 @@ static void call_pair_ward(void) { number = mtb_pair_ward(PAIR_ARGUMENTS); }
         9 * (s + 1) * (n - 1), grey, grey_len, words, words_len
 static void call_series(void) { number = mtb_series(SERIES_ARGUMENTS); }
 static void call_series_ward(void) { number = mtb_series_ward(SERIES_ARGUMENTS); }
+static void call_quadrants(void) {
+    number = mtb_quadrants(w, h, s, 4, 50, rasters, 3 * area, rasters + 3 * area, 3 * area, offsets, 8, &turned, grey, grey_len, words,
+                           words_len);
+}
 static void call_grey_needed(void) { number = mtb_grey_needed(w, h, s) != grey_len; }
 static void call_words_needed(void) { number = mtb_words_needed(w, h, s) != words_len; }
 static void call_p6_write(void) { number = mtb_p6_write(w, h, rasters, 3 * area, out, 3 * area + 17, &written); }
@@ -52,7 +57,7 @@ static void call_blink_row(void) {
     number = mtb_blink_row(w, h, h - 1, true, rasters, 3 * area, rasters + 3 * area, 3 * area, &start, &length);
 }
 
-enum kind { PLAIN, MOVING, LEVELLED, ALIGNING };
+enum kind { PLAIN, MOVING, LEVELLED, ALIGNING, QUARTERING };
 
 /* The empty call first, then in an order in which each finds what it reads. */
 static const struct {
@@ -72,6 +77,7 @@ static const struct {
     {"mtb_series", call_series, ALIGNING},
     {"mtb_pair_ward", call_pair_ward, ALIGNING},
     {"mtb_series_ward", call_series_ward, ALIGNING},
+    {"mtb_quadrants", call_quadrants, QUARTERING},
     {"mtb_grey_needed", call_grey_needed, LEVELLED},
     {"mtb_words_needed", call_words_needed, LEVELLED},
     {"mtb_p6_write", call_p6_write, PLAIN},
@@ -124,12 +130,17 @@ static void measure(int call, int32_t move_x, int32_t move_y) {
         printf("%s refused %u by %u: %u\n", calls[call].name, w, h, number);
 }
 
+/* Whether refusal 4 leaves this size and s to the call. */
+static bool large_enough(enum kind kind) {
+    return kind == ALIGNING ? grey_len > 0 : kind == QUARTERING ? mtb_grey_needed(w / 2, h / 2, s) > 0 : true;
+}
+
 /* Every call at this size and s; what does not depend on s only at s = 0. */
 static void measure_all(void) {
     static const int32_t moves[][2] = {{0, 0}, {5, -3}, {-64, 2}, {100, 1}, {-1, 5000}, {INT32_MIN, INT32_MAX}};
     for (int call = 0; call < CALLS; call++) {
         enum kind kind = calls[call].kind;
-        if ((kind == ALIGNING && grey_len == 0) || (s > 0 && (kind == PLAIN || kind == MOVING)))
+        if (!large_enough(kind) || (s > 0 && (kind == PLAIN || kind == MOVING)))
             continue;
         for (size_t m = 0; m < (kind == MOVING ? sizeof moves / sizeof *moves : 1); m++)
             measure(call, moves[m][0], moves[m][1]);
@@ -184,7 +195,7 @@ int main(void) {
         measure_size(sizes[i][0], sizes[i][1]);
     for (int call = 1; call < CALLS; call++) {
         printf("%-18s", calls[call].name);
-        for (int level = 0; level < (calls[call].kind == ALIGNING ? LEVELS : 1); level++)
+        for (int level = 0; level < (calls[call].kind >= ALIGNING ? LEVELS : 1); level++)
             printf(" %5zu", most[call][level] - most[0][0]);
         puts("");
     }

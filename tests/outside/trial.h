@@ -65,6 +65,7 @@ struct library {
     __typeof__(mtb_series) *series;
     __typeof__(mtb_pair_ward) *pair_ward;
     __typeof__(mtb_series_ward) *series_ward;
+    __typeof__(mtb_quadrants) *quadrants;
     __typeof__(mtb_p6_size) *p6_size;
     __typeof__(mtb_p6_raster) *p6_raster;
     __typeof__(mtb_p6_write) *p6_write;
@@ -88,6 +89,9 @@ struct call {
 
 extern const struct call calls[];
 extern const int call_count;
+
+/* Whether refusal 4 looks at a quadrant's sides. */
+bool quartered(const struct call *call);
 
 /* A large trial's sizes; for the calls that align, s and n too. */
 struct shape {

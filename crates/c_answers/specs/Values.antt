@@ -1,9 +1,11 @@
 -- A call's answer as C gets it: a refusal number, and values through pointers.
+use mathlib.Core.Bool.{Bool, true, false}
 use Prim.Native.Nat.{ℕ, zero, suc}
 use lib.IntN.{ℤ}
 use Rattle.rules.specs.declared.Written.{Written}
 use Rattle.rules.specs.declared.Offset.{Offset}
 use Rattle.rules.specs.declared.Paired.{Paired}
+use Rattle.rotation.specs.declared.Rotation.{Rotation}
 
 -- what a pointer's place holds after a call with this refusal number: the value, or what it held
 abbrev pub valueAfter : {A : Type 0} → ℕ → A → A → A
@@ -27,3 +29,14 @@ pairRefusalIn (Paired.Refused n) = n
 abbrev pub offsetAfter : Paired → Offset → Offset
 offsetAfter (Paired.Moved m) before = m
 offsetAfter (Paired.Refused n) before = before
+
+-- the same of the quadrants' answer, with what stands behind the pointer that tells a turn
+abbrev pub rotationRefusalIn : Rotation → ℕ
+rotationRefusalIn Rotation.Turned = 0
+rotationRefusalIn Rotation.NotTurned = 0
+rotationRefusalIn (Rotation.Refused n) = n
+
+abbrev pub turnedAfter : Rotation → Bool → Bool
+turnedAfter Rotation.Turned before = true
+turnedAfter Rotation.NotTurned before = false
+turnedAfter (Rotation.Refused n) before = before

@@ -1,9 +1,10 @@
-// Answers as C gets them: a number, and an offset behind two pointers.
+// Answers as C gets them: a number, and values behind pointers.
 
+use rotation::Rotation;
 use rules::Paired;
 use rules::Written;
 ghost use mathlib.Core.Path.{_≡_};
-ghost use Rattle.c_answers.specs.Values.{refusalIn, pairRefusalIn, offset, offsetAfter};
+ghost use Rattle.c_answers.specs.Values.{refusalIn, pairRefusalIn, offset, offsetAfter, rotationRefusalIn, turnedAfter};
 
 // The refusal number of an answer, 0 when the call was accepted.
 pub fn refusal_in(answer: Written) -> u32
@@ -29,5 +30,23 @@ pub fn moved_into(answer: Paired, dx: &mut i32, dy: &mut i32) -> u32
             0
         }
         Paired::Refused(n) => n,
+    }
+}
+
+// The same of the quadrants' answer: whether it is a turn goes behind the pointer.
+pub fn turned_into(answer: Rotation, turned: &mut bool) -> u32
+    ensures turned { λ _. ⌜ now (turned .exit) ≡ turnedAfter answer (now (turned .entry)) ⌝ }
+    ensures number { λ r. ⌜ r ≡ rotationRefusalIn answer ⌝ }
+{
+    match answer {
+        Rotation::Turned => {
+            *turned = true;
+            0
+        }
+        Rotation::NotTurned => {
+            *turned = false;
+            0
+        }
+        Rotation::Refused(n) => n,
     }
 }

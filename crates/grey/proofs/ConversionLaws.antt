@@ -3,6 +3,8 @@ use mathlib.Core.Path.{_≡_, refl, _∙_}
 use mathlib.Core.List.{List}
 use Prim.Native.Nat.{ℕ, _+_, _*_, _-_, _≤_, _<_}
 use native.Mathlib.Omega.{arith}
+use lib.ListN.{length, take, drop, length-drop}
+use borrow.Rule.Slice.PartAt.{part-to-end}
 use Rattle.rules.specs.Buffers.{RowAt, Filled}
 use Rattle.rules.proofs.FrameLaws.{row-join}
 use Rattle.grey_block.specs.GreyBlocks.{byteFrom, planeAt, weighedAt}
@@ -50,3 +52,7 @@ grey-rest l before mid after to k n m a r =
     rw e at
     (row-join to (greyAt l) (greyFrom l (3 * k)) before mid after k (n - k) a r
     (λ j i. grey-on l (3 * k) k j refl))
+
+-- a raster from a place on has room for what is read there
+pub part-room : (raster : List ℕ) (from n : ℕ) → from + n ≤ length raster → n ≤ length (take (length raster - from) (drop from raster))
+part-room raster from n l = rw (part-to-end raster from) (let a = length-drop from raster in omega arith)

@@ -1,5 +1,6 @@
 -- What C is told of a call. An answer made from a refusal number k and a value tells them back: accepted only where k is 0, else refused with k.
 use mathlib.Core.Path.{_≡_, refl, sym, ap, subst, _∙_}
+use mathlib.Core.Bool.{Bool, true, false}
 use mathlib.Core.List.{List}
 use Prim.Native.Nat.{ℕ, zero, suc}
 use native.Mathlib.Omega.{arith}
@@ -27,7 +28,11 @@ use Rattle.area.specs.declared.Common.{Common}
 use Rattle.area.specs.Common.{common}
 use Rattle.blink.specs.declared.Row.{Row}
 use Rattle.blink.specs.Blink.{rowAt}
-use Rattle.c_answers.specs.Values.{valueAfter, refusalIn, pairRefusalIn, offsetAfter}
+use Rattle.rotation.specs.declared.Rotation.{Rotation}
+use Rattle.rotation.specs.Turns.{turned, rotation}
+use Rattle.rotation.proofs.TurnLaws.{rotation-refused}
+use Rattle.quadrants.specs.QuadrantsCalls.{QuadrantsLeft}
+use Rattle.c_answers.specs.Values.{valueAfter, refusalIn, pairRefusalIn, offsetAfter, rotationRefusalIn, turnedAfter}
 
 -- A pointer's place after an accepted call, and after a refused one.
 pub value-accepted : {A : Type 0} (k : ℕ) (value x before : A) → 0 ≡ k → x ≡ value → x ≡ valueAfter k value before
@@ -126,6 +131,20 @@ pair-left number result counts counts′ compared compared′ grey grey′ words
 pair-left number result counts counts′ compared compared′ grey grey′ words words′ (Paired.Refused k) n before after left o e =
     let l = paired-refused number (result .offset) k (left .answered) .1 in
     (rw (e) (subst (PairLeft number result counts counts′ compared compared′ grey grey′ words words′) (refused-is k after l) left), λ f. o)
+
+rotation-number : (k : ℕ) (t : Bool) (n : ℕ) → Rotation.Refused n ≡ rotation k t → n ≡ 0 → ⊥
+rotation-number zero true n e z = let y : _≡_ {A = ℕ} 0 1 = cc in absurd (omega arith)
+rotation-number zero false n e z = let y : _≡_ {A = ℕ} 0 1 = cc in absurd (omega arith)
+rotation-number (suc k) t n e z = let d : n ≡ suc k = cc in omega arith
+
+pub quadrants-left : (number : ℕ) (four : List Offset) (offsets offsets′ : List ℤ) (grey grey′ words words′ : List ℕ) (r : Rotation) (n : ℕ) (before after : Bool)
+    → QuadrantsLeft number four offsets offsets′ grey grey′ words words′ r → after ≡ turnedAfter r before → n ≡ rotationRefusalIn r
+    → QuadrantsLeft number four offsets offsets′ grey grey′ words words′ (rotation n after) × ((n ≡ 0 → ⊥) → after ≡ before)
+quadrants-left number four offsets offsets′ grey grey′ words words′ Rotation.Turned n before after left o e = (rw (e, o) left, λ f. absurd (f e))
+quadrants-left number four offsets offsets′ grey grey′ words words′ Rotation.NotTurned n before after left o e = (rw (e, o) left, λ f. absurd (f e))
+quadrants-left number four offsets offsets′ grey grey′ words words′ (Rotation.Refused k) n before after left o e =
+    let l = rotation-number number (turned four) k (left .answered) in
+    (rw (e) (subst (QuadrantsLeft number four offsets offsets′ grey grey′ words words′) (rotation-refused k after l) left), λ f. o)
 
 pub fills-left : (number : ℕ) (out before after : List ℕ) (r : Written) (n : ℕ) → Fills number out before after r → n ≡ refusalIn r
     → Fills number out before after (written n)

@@ -1,4 +1,4 @@
-// Alignment of pairs and series, and the work memory that it needs. A C function's number n stands for
+// Alignment of pairs, quadrants and series, and the work memory that it needs. A C function's number n stands for
 // the answer that a call gives: accepted where it is 0, else refused with it.
 
 ghost use mathlib.Core.Path.{_≡_};
@@ -6,11 +6,15 @@ ghost use Rattle.rules.specs.Answers.{written, paired};
 ghost use Rattle.rules.specs.Levels.{wardOrder, leastMoveOrder};
 ghost use Rattle.rules.specs.Calls.{toleranceSetup, PairCall, toleranceSettings, SeriesCall};
 ghost use Rattle.rules.specs.Refusals.{shapeRefusal, greyNeeded, wordsNeeded};
+ghost use Rattle.rotation.specs.Turns.{rotation};
+ghost use Rattle.quadrants.specs.QuadrantsCalls.{QuadrantsCall};
 ghost use Rattle.c_answers.specs.Values.{valueAfter, offset};
 use c_answers::moved_into;
 use c_answers::refusal_in;
+use c_answers::turned_into;
 use pair::pair;
 use pair::pair_ward;
+use quadrants::quadrants;
 use series::series;
 use series::series_ward;
 use work_memory::grey_memory;
@@ -173,6 +177,42 @@ pub extern "C" fn mtb_series_ward(
         grey,
         words,
     ))
+}
+
+#[no_mangle]
+pub extern "C" fn mtb_quadrants(
+    w: u32,
+    h: u32,
+    s: u32,
+    tolerance: u32,
+    percentile: u32,
+    first: &[u8],
+    second: &[u8],
+    offsets: &mut [i32],
+    turned: &mut bool,
+    grey: &mut [u8],
+    words: &mut [u64],
+) -> u32
+    ensures call { λ n. ⌜
+        QuadrantsCall leastMoveOrder (toleranceSetup w h s tolerance percentile) (now (first .entry)) (now (second .entry))
+        (now (offsets .entry)) (now (offsets .exit)) (now (grey .entry)) (now (grey .exit)) (now (words .entry)) (now (words .exit))
+        (rotation n (now (turned .exit)))
+        ⌝ }
+    ensures refused { λ n. ⌜ ((n ≡ 0 → ⊥) → now (turned .exit) ≡ now (turned .entry)) ⌝ }
+{
+    let answer = quadrants(
+        w as usize,
+        h as usize,
+        s,
+        tolerance,
+        percentile,
+        first,
+        second,
+        offsets,
+        grey,
+        words,
+    );
+    turned_into(answer, turned)
 }
 
 // The bytes of grey work memory; 0 when the sizes or s are refused.

@@ -7,10 +7,9 @@ use native.Mathlib.Nat.{zero-add, zero-mul, one-mul, suc-mul, mul-comm, mul-le-m
 use native.Mathlib.Numerals.{add-one}
 use native.Mathlib.Omega.{arith}
 use lib.IntN.{ℤ}
-use lib.ListN.{length, getD, take, drop, length-drop}
+use lib.ListN.{length, getD, drop}
 use lib.Seq.{getD-drop}
 use lib.Pow.{pow-mono}
-use borrow.Rule.Slice.PartAt.{part-to-end}
 use borrow.Author.Tests.{eq-eqb, ne-eqb}
 use Rattle.rules.specs.declared.Offset.{Offset}
 use Rattle.rules.specs.declared.Exclusion.{Exclusion}
@@ -149,10 +148,6 @@ frames-at S k rasters pairs counts compared grey words i j first second o a b = 
 -- a frame's place lies in the lent memory
 pub place-room : (w h s k grey place : ℕ) → greyNeeded s w h ≤ grey → place ≡ placeOf k (w * h) → place + w * h ≤ grey
 place-room w h s k grey place l e = let a = level-pixels-at s w h in let b = place-fits k (w * h) in omega arith
-
--- the rest of a list from a place on
-pub part-room : (rasters : List ℕ) (from n : ℕ) → from + n ≤ length rasters → n ≤ length (take (length rasters - from) (drop from rasters))
-part-room rasters from n l = rw (part-to-end rasters from) (let a = length-drop from rasters in omega arith)
 
 -- A pair's run, from what its three parts leave: the conversion, the alignment, the offset put.
 module _ (preferred : List Offset) (S : Setup) (k first second at : ℕ) (rasters part grey0 grey1 grey2 counts counts′ compared compared′ : List ℕ) (pairs pairs′ : List ℤ) (m : Offset)

@@ -5,50 +5,63 @@ use Prim.Native.Nat.{ℕ, suc, _+_, _*_, _-_, _^_, _≤_, _<_}
 use native.Mathlib.Omega.{arith}
 use lib.ListN.{getD, drop}
 use lib.Seq.{getD-drop}
+use Rattle.rules.specs.Frames.{Frame}
 use Rattle.rules.specs.Greys.{grey, greyFrame}
 use Rattle.rules.specs.Planes.{distance}
 use Rattle.rules.specs.declared.Offset.{Offset}
 use Rattle.rules.specs.Levels.{arranged, ExclusionRule, pair, Near, Every}
 use Rattle.rules.specs.Series.{Settings, greyOf, pairOf, frameOffset, answerOf, answerBy}
-use Rattle.reexposure.specs.Reexposure.{Reexposed, Bytes, Sound, Bounded, ByOrder, Demand3}
+use Rattle.reexposure.specs.Reexposure.{SameOrder, Reexposed, Bytes, Sound, Bounded, ByOrder, GreyBytes, PairAlike, Demand3}
 use Rattle.reexposure.proofs.Links.{Link, Linked}
 use Rattle.reexposure.proofs.SamePairs.{linked-kept, answer-ext}
 use Rattle.rules.proofs.PairLaws.{pair-by}
 use Rattle.rules.proofs.OffsetLaws.{near-pair, near-arranged, near-frame, offset-at}
 
--- grey values that some pixel of frame k has in F and in F′
-record Seen (S : Settings) (F F′ : List ℕ) (k : ℕ) (v v′ : ℕ) : Type 0 where
+-- grey values that some pixel has in the one frame and in the other
+record Seen (w h : ℕ) (f f′ : Frame) (v v′ : ℕ) : Type 0 where
   x : ℕ
   y : ℕ
-  inside-x : x < S .w
-  inside-y : y < S .h
-  here : greyOf S F k x y ≡ v
-  there : greyOf S F′ k x y ≡ v′
+  inside-x : x < w
+  inside-y : y < h
+  here : f x y ≡ v
+  there : f′ x y ≡ v′
+
+seen-link : (w h : ℕ) (f f′ : Frame) → GreyBytes w h f → GreyBytes w h f′ → SameOrder w h f f′ → Link (Seen w h f f′)
+seen-link w h f f′ greys greys′ alike = record {
+  alike = λ v v′ u u′ p q.
+      rw (← p .here, ← p .there, ← q .here, ← q .there) (alike (p .x) (p .y) (q .x) (q .y) (p .inside-x) (p .inside-y) (q .inside-x) (q .inside-y));
+  low = λ v v′ p. rw (← p .here) (greys (p .x) (p .y) (p .inside-x) (p .inside-y));
+  low′ = λ v v′ p. rw (← p .there) (greys′ (p .x) (p .y) (p .inside-x) (p .inside-y));
+}
+
+seen : (w h : ℕ) (f f′ : Frame) → Linked (Seen w h f f′) w h f f′
+seen w h f f′ x y l m = record { x = x; y = y; inside-x = l; inside-y = m; here = refl; there = refl }
+
+-- one pair
+pub same-pair : PairAlike
+same-pair order rule fair p s w h some most a a′ b b′ greyA greyA′ greyB greyB′ alikeA alikeB =
+    let kept = linked-kept rule p fair some most in
+    pair-by order rule p (Linked (Seen w h a a′)) (Linked (Seen w h b b′))
+    (kept (Seen w h a a′) (seen-link w h a a′ greyA greyA′ alikeA)) (kept (Seen w h b b′) (seen-link w h b b′ greyB greyB′ alikeB))
+    s w h a a′ b b′ (seen w h a a′) (seen w h b b′)
 
 grey-low : (r g b : ℕ) → r < 256 → g < 256 → b < 256 → grey r g b ≤ 255
 unfolding grey
 grey-low r g b k l m = omega arith
 
+-- a raster of bytes has grey values of bytes
+pub grey-byte : (w : ℕ) (raster : List ℕ) → Bytes raster → (x y : ℕ) → greyFrame w raster x y ≤ 255
+unfolding greyFrame
+grey-byte w raster bytes x y =
+    let at = 3 * (y * w + x) in
+    grey-low (getD raster at 0) (getD raster (at + 1) 0) (getD raster (at + 2) 0) (bytes at) (bytes (at + 1)) (bytes (at + 2))
+
 low : (S : Settings) (F : List ℕ) → Bytes F → (k x y : ℕ) → greyOf S F k x y ≤ 255
-unfolding greyOf greyFrame
-low S F bytes k x y = grey-low (at (3 * (y * S .w + x))) (at (3 * (y * S .w + x) + 1)) (at (3 * (y * S .w + x) + 2)) (byte _) (byte _) (byte _)
+unfolding greyOf
+low S F bytes k = grey-byte (S .w) (drop n F) (λ i. rw (getD-drop n F i 0) (bytes (n + i)))
   where
-    at : ℕ → ℕ
-    at i = getD (drop (k * (3 * (S .w * S .h))) F) i 0
-
-    byte : (i : ℕ) → at i < 256
-    byte i = rw (getD-drop (k * (3 * (S .w * S .h))) F i 0) (bytes (k * (3 * (S .w * S .h)) + i))
-
-seen-link : (S : Settings) (F F′ : List ℕ) → Bytes F → Bytes F′ → Reexposed S F F′ → (k : ℕ) → k < S .frames → Link (Seen S F F′ k)
-seen-link S F F′ bytes bytes′ alike k l = record {
-  alike = λ v v′ u u′ p q.
-      rw (← p .here, ← p .there, ← q .here, ← q .there) (alike .alike k l (p .x) (p .y) (q .x) (q .y) (p .inside-x) (p .inside-y) (q .inside-x) (q .inside-y));
-  low = λ v v′ p. rw (← p .here) (low S F bytes k (p .x) (p .y));
-  low′ = λ v v′ p. rw (← p .there) (low S F′ bytes′ k (p .x) (p .y));
-}
-
-seen : (S : Settings) (F F′ : List ℕ) (k : ℕ) → Linked (Seen S F F′ k) (S .w) (S .h) (greyOf S F k) (greyOf S F′ k)
-seen S F F′ k x y l m = record { x = x; y = y; inside-x = l; inside-y = m; here = refl; there = refl }
+    n : ℕ
+    n = k * (3 * (S .w * S .h))
 
 -- every re-exposed series has the same answer
 pub same-answer : (order : List Offset) (exclusion : ExclusionRule) (S : Settings) (F F′ : List ℕ) → Sound S
@@ -63,12 +76,10 @@ same-answer order exclusion S F F′ sound fair bytes bytes′ alike =
     (λ k l.
     let p : ℕ = getD (S .percentiles) k 0 in
     let fits = sound .percentile k (omega arith) in
-    let kept = linked-kept exclusion p fair (fits .0) (fits .1) in
-    pair-by order exclusion p (Linked (Seen S F F′ k)) (Linked (Seen S F F′ (k + 1)))
-    (kept (Seen S F F′ k) (seen-link S F F′ bytes bytes′ alike k (omega arith)))
-    (kept (Seen S F F′ (k + 1)) (seen-link S F F′ bytes bytes′ alike (k + 1) (omega arith)))
-    (S .halvings) (S .w) (S .h) (greyOf S F k) (greyOf S F′ k) (greyOf S F (k + 1)) (greyOf S F′ (k + 1))
-    (seen S F F′ k) (seen S F F′ (k + 1)))
+    same-pair order exclusion fair p (S .halvings) (S .w) (S .h) (fits .0) (fits .1)
+    (greyOf S F k) (greyOf S F′ k) (greyOf S F (k + 1)) (greyOf S F′ (k + 1))
+    (λ x y l m. low S F bytes k x y) (λ x y l m. low S F′ bytes′ k x y) (λ x y l m. low S F bytes (k + 1) x y) (λ x y l m. low S F′ bytes′ (k + 1) x y)
+    (alike .alike k (omega arith)) (alike .alike (k + 1) (omega arith)))
 
 -- every answer is bounded
 pub bounded : (order : List Offset) → Every (Near 1) order → (exclusion : ExclusionRule) (S : Settings) (F : List ℕ) → S .reference < S .frames

@@ -4,15 +4,20 @@ use mathlib.Core.List.{List}
 use Prim.Native.Nat.{ℕ, suc, _+_, _*_, _-_, _^_, _≤_, _<_, compare}
 use lib.IntN.{pos, natAbs}
 use lib.ListN.{getD}
+use Rattle.rules.specs.Limits.{maxGrey}
+use Rattle.rules.specs.Frames.{Frame}
 use Rattle.rules.specs.Planes.{distance}
 use Rattle.rules.specs.declared.Offset.{Offset}
-use Rattle.rules.specs.Levels.{Arrangement, arranged, ExclusionRule, byTolerance}
+use Rattle.rules.specs.Levels.{Arrangement, arranged, ExclusionRule, byTolerance, pair}
 use Rattle.rules.specs.Series.{Settings, greyOf, Answer, answerBy}
 
--- "for each frame and any two of its pixels, their full-size grey values compare in F' as in F": darker, equal or brighter
+-- two grey frames in which any two pixels compare alike: darker, equal or brighter
+abbrev pub SameOrder : ℕ → ℕ → Frame → Frame → Type 0
+SameOrder w h f f′ = (x y u v : ℕ) → x < w → y < h → u < w → v < h → compare (f x y) (f u v) ≡ compare (f′ x y) (f′ u v)
+
+-- "for each frame and any two of its pixels, their full-size grey values compare in F' as in F"
 pub record Reexposed (S : Settings) (F F′ : List ℕ) : Type 0 where
-  pub alike : (k : ℕ) → k < S .frames → (x y u v : ℕ) → x < S .w → y < S .h → u < S .w → v < S .h
-      → compare (greyOf S F k x y) (greyOf S F k u v) ≡ compare (greyOf S F′ k x y) (greyOf S F′ k u v)
+  pub alike : (k : ℕ) → k < S .frames → SameOrder (S .w) (S .h) (greyOf S F k) (greyOf S F′ k)
 
 -- rasters hold bytes
 abbrev pub Bytes : List ℕ → Type 0
@@ -33,6 +38,17 @@ pub record ByOrder (rule : ExclusionRule) : Type 0 where
   pub alike : (percentile : ℕ) → 1 ≤ percentile → percentile ≤ 99 → (t t′ : ℕ → ℕ) (v v′ : ℕ)
       → ((p : ℕ) → 1 ≤ p → p ≤ 99 → compare (t p) v ≡ compare (t′ p) v′)
       → rule t percentile v ≡ rule t′ percentile v′
+
+-- the grey values of a frame are bytes
+abbrev pub GreyBytes : ℕ → ℕ → Frame → Type 0
+GreyBytes w h f = (x y : ℕ) → x < w → y < h → f x y ≤ maxGrey
+
+-- Demand 3 of one pair of grey frames, in any order of the nine: re-exposed, they have the same answer (proved in proofs/Theorem.antt as `same-pair`).
+abbrev pub PairAlike : Type 0
+PairAlike =
+    (order : List Offset) (rule : ExclusionRule) → ByOrder rule → (percentile s w h : ℕ) → 1 ≤ percentile → percentile ≤ 99
+    → (a a′ b b′ : Frame) → GreyBytes w h a → GreyBytes w h a′ → GreyBytes w h b → GreyBytes w h b′ → SameOrder w h a a′ → SameOrder w h b b′
+    → pair order rule percentile s w h a b ≡ pair order rule percentile s w h a′ b′
 
 -- what holds of a series F and of F′, F re-exposed, for an order of the nine and an exclusion rule: the same answer, offsets, counts and compared numbers, and both bounded
 pub record Alike (order : List Offset) (rule : ExclusionRule) (S : Settings) (F F′ : List ℕ) : Type 0 where

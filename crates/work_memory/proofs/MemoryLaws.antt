@@ -1,23 +1,14 @@
 -- Laws of the shortest side that s halvings allow, and of a bitmap's length.
 use mathlib.Core.Path.{_≡_, sym, _∙_}
-use mathlib.Core.Bool.{_||_}
 use Prim.Native.Nat.{ℕ, _+_, _*_, _%_, _^_, _≤_}
 use native.Mathlib.Nat.{mul-comm, mul-le-mul}
 use native.Mathlib.Omega.{arith}
 use lib.Pow.{shl-exact, pow-add}
-use lib.Dec.{ltb}
-use Rattle.rules.specs.Refusals.{_when_, _orElse_, tooSmall}
 use Rattle.rules.specs.Bitmaps.{rowWords}
-use Rattle.rules.proofs.RefusalLaws.{orElse-none}
 
 -- the shift loses no bit
 pub shortest-side : (s : ℕ) → s ≤ 8 → 4 * 2 ^ s % 2 ^ 64 ≡ 2 ^ (s + 2)
 shortest-side s l = shl-exact {a = 4} 3 s 64 (omega arith) (omega arith) ∙ mul-comm 4 (2 ^ s) ∙ sym (pow-add 2 s 2)
-
--- the refusal by the shifted least side is that of the rule
-pub small-side : (w h s r : ℕ) → s ≤ 8 → r ≡ 4 when (ltb w (4 * 2 ^ s % 2 ^ 64) || ltb h (4 * 2 ^ s % 2 ^ 64)) orElse 0 → r ≡ 4 when tooSmall w h s
-unfolding tooSmall
-small-side w h s r l e = simp (orElse-none, shortest-side s l) at e
 
 -- a bitmap's words
 pub bitmap-fit : (w h : ℕ) → w ≤ 4096 → h ≤ 4096 → rowWords w * h ≤ 262144

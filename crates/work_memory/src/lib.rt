@@ -9,7 +9,7 @@ use words::row_words;
 ghost use mathlib.Core.Path.{_≡_};
 ghost use Prim.Native.Nat.{_<_, _≤_};
 ghost use Rattle.rules.specs.Limits.{maxSide, maxHalvings};
-ghost use Rattle.rules.specs.Refusals.{shapeRefusal, levelPixels, greyNeeded, wordsNeeded, shortMemory};
+ghost use Rattle.rules.specs.Refusals.{tooSmall, shapeRefusal, levelPixels, greyNeeded, wordsNeeded, shortMemory};
 
 // The pixels of all levels of a frame.
 fn level_pixels(w: usize, h: usize, s: u32) -> usize
@@ -22,6 +22,15 @@ fn level_pixels(w: usize, h: usize, s: u32) -> usize
     w * h + level_pixels(w / 2, h / 2, s - 1)
 }
 
+// 4: a side is too short for the halvings, which leave the smallest level 4 pixels each way.
+pub fn too_small(w: usize, h: usize, s: u32) -> bool
+    requires { ⌜ s ≤ maxHalvings ⌝ }
+    ensures { λ r. ⌜ r ≡ tooSmall w h s ⌝ }
+{
+    let least = 4usize << s;
+    (w < least) | (h < least)
+}
+
 // 2, 3, 4: what is wrong with sizes and halvings.
 pub fn shape_refusal(w: usize, h: usize, s: u32) -> u32
     ensures { λ r. ⌜ r ≡ shapeRefusal w h s ⌝ }
@@ -32,9 +41,8 @@ pub fn shape_refusal(w: usize, h: usize, s: u32) -> u32
     if MAX_HALVINGS < s {
         return 3;
     }
-    let least = 4usize << s; // leaves the smallest level 4 pixels each way
     lowest(Faults {
-        small: (w < least) | (h < least),
+        small: too_small(w, h, s),
         ..NONE
     })
 }

@@ -6,7 +6,8 @@ use lib.ListN.{length, take, drop}
 use borrow.Author.Needs.{needs}
 use borrow.Rule.Slice.PartAt.{part-to-end}
 use Rattle.rules.specs.Levels.{arranged}
-use Rattle.next_pair.proofs.RunLaws.{place-room, frames-at, part-room, ran}
+use Rattle.grey.proofs.ConversionLaws.{part-room}
+use Rattle.next_pair.proofs.RunLaws.{place-room, frames-at, ran}
 use Rattle.next_pair.proofs.align_next.Statement.{statement}
 use Rattle.next_pair.proofs.align_next.Tie as tie
 

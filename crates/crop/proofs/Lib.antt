@@ -1,0 +1,2 @@
+-- Laws of crops.
+pub mod CropLaws

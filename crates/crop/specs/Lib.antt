@@ -1,0 +1,3 @@
+-- Crops of rasters, and the quadrants of a frame.
+pub mod Crops
+pub mod Quadrants

@@ -1,0 +1,2 @@
+-- The offsets of the four quadrants.
+pub mod FourOffsets

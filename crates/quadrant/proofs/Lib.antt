@@ -1,0 +1,2 @@
+-- Laws of a quadrant's alignment.
+pub mod QuadrantLaws

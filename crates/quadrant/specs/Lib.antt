@@ -1,0 +1,2 @@
+-- The offset of a quadrant.
+pub mod QuadrantPairs

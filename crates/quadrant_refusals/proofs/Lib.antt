@@ -1,0 +1,2 @@
+-- What an accepted quadrants call knows.
+pub mod QuadrantRefusalLaws

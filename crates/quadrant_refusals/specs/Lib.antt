@@ -1,0 +1,2 @@
+-- When the quadrants call refuses, and what an accepted one knows.
+pub mod QuadrantRefusals

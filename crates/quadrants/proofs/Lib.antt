@@ -1,0 +1,2 @@
+-- The answer as the call gives it.
+pub mod LeftLaws

@@ -1,0 +1,2 @@
+-- What the quadrants call leaves.
+pub mod QuadrantsCalls

@@ -1,0 +1,2 @@
+-- Laws of the tests and of the answer.
+pub mod TurnLaws

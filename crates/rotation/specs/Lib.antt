@@ -1,0 +1,2 @@
+-- When offsets tell of a turn.
+pub mod Turns
