@@ -22,6 +22,9 @@ COUNTED_SIZES = ((640, 480), (1920, 1080))  # the sizes at which instructions ar
 # call. From docs/BENCHMARK.md as commit 060eb06 has it.
 BEFORE = {(2, 640, 480): 25.35, (2, 1920, 1080): 23.80, (9, 640, 480): 22.36, (9, 1920, 1080): 20.91}
 BEFORE_WINDOW = 0.70
+# The library's instructions a word of the bitmap for a shift before Paper 5, by size: bench/shift.c with the archive of commit a66c07d.
+BEFORE_SHIFT = {(640, 480): 31.96, (1920, 1080): 30.63}
+SHIFTS = 7 * 7  # moves of the window of shifts
 # Who takes the quadrants of a pair, or the pair: by name, in the table.
 QUADRANTS = {LIBRARY: "`mtb_quadrants`", "pair": "`mtb_pair`", "four pairs": "four pairs", CAREFUL: CAREFUL}
 ASKED = ((640, 480), (1920, 1080), (4096, 4096))  # the sizes of our goals
@@ -46,16 +49,18 @@ Time = namedtuple("Time", "median least turns offset true to_library")
 Calls = namedtuple("Calls", "median least to_library")
 # the quadrants of a pair, or the pair: milliseconds, and how many times the time that the library takes for the quadrants
 Quartered = namedtuple("Quartered", "median to_library")
+# one shift: microseconds, and how many times the library's time
+Shifted = namedtuple("Shifted", "median to_library")
 
 
 class Results:
     """What was measured: times[job][name] with freed memory kept, default[job][name] with the C library's own ways,
-    window[name] of single difference calls, quadrants[size][name], facts, agreement, and the profiles in the folder."""
+    window[name] of single difference calls, quadrants[size][name], shifts[size][name], facts, agreement, and the profiles in the folder."""
 
     def __init__(self, folder):
         self.folder = folder
-        self.times, self.default, self.window, self.quadrants, self.facts = {}, {}, {}, {}, {}
-        self.agreed, self.agreed_quadrants = (0, 0), (0, 0)
+        self.times, self.default, self.window, self.quadrants, self.shifts, self.facts = {}, {}, {}, {}, {}, {}
+        self.agreed, self.agreed_quadrants, self.agreed_shifts = (0, 0), (0, 0), 0
         with open(os.path.join(folder, "results.tsv")) as lines:
             for line in lines:
                 self.take(line.rstrip("\n").split("\t"))
@@ -68,6 +73,11 @@ class Results:
             self.agreed = (int(words[1]), int(words[2]))
         elif kind == "agree quadrants":
             self.agreed_quadrants = (int(words[1]), int(words[2]))
+        elif kind == "agree shift":
+            self.agreed_shifts = int(words[1])
+        elif kind == "shift":
+            times = self.shifts.setdefault((int(words[1]), int(words[2])), {})
+            times[words[3]] = Shifted(int(words[4]) / 1e3, float(words[5]))
         elif kind == "quadrants":
             times = self.quadrants.setdefault((int(words[1]), int(words[2])), {})
             times[words[3]] = Quartered(int(words[4]) / 1e6, float(words[5]))
@@ -101,6 +111,11 @@ class Results:
     def counted_quadrants(self, size, name):
         """Instructions a pixel of the frame, of its quadrants or of the pair; None where they were not counted."""
         return sum(self.profile("quadrants", name, *size).values()) / (size[0] * size[1]) or None
+
+    def counted_shift(self, size, name):
+        """Instructions a word of the bitmap of one shift; None where they were not counted."""
+        words = (size[0] + 63) // 64 * size[1]
+        return sum(self.profile("shift", name, *size).values()) / (SHIFTS * words) or None
 
     def ratio(self, job, a, b):
         return ratio(self.times[job], a, b)
@@ -284,6 +299,20 @@ def quadrants_counted(results):
     return table(["instructions a pixel, s = 5", *QUADRANTS.values()], rows)
 
 
+def shift_table(results):
+    """A row each size: a shift by each contestant, and the bitmap copied."""
+    names = (LIBRARY, CAREFUL, MEMCPY)
+    rows = [[f"{w}×{h}", *(f"{times[name].median:.2f}" for name in names), *(shown(ratio(times, LIBRARY, name)) for name in names[1:])]
+            for (w, h), times in results.shifts.items()]
+    return table(["moves of at most 3", *(f"{name}, µs" for name in names), "library / careful C", "library / memcpy"], rows)
+
+
+def shift_counted(results):
+    rows = [[f"{w}×{h}", *(shown(results.counted_shift((w, h), name)) for name in (LIBRARY, CAREFUL)), shown(BEFORE_SHIFT[w, h])]
+            for w, h in COUNTED_SIZES]
+    return table(["instructions a word", LIBRARY, CAREFUL, "library before Paper 5"], rows)
+
+
 def default_table(results):
     rows = [[size(j), *(milliseconds(t[name].median) for name in (LIBRARY, OPENCV)), shown(ratio(t, OPENCV, LIBRARY))]
             for j, t in sorted(results.default.items(), key=lambda item: pixels(item[0])) if OPENCV in t]
@@ -360,10 +389,19 @@ def goal_s(results):
     return Goal("nearly independent of s (at most 4/3, the sum of the levels' pixels)", text, met)
 
 
+def goal_shift(results):
+    """Against memcpy of the bitmap, at every size."""
+    ratios = [(ratio(times, LIBRARY, MEMCPY), size) for size, times in results.shifts.items()]
+    text = ", ".join(f"{r:.2f} at {w}×{h}" for r, (w, h) in ratios)
+    reached = [f"{w}×{h}" for r, (w, h) in ratios if r <= 1.505]
+    met = "met" if len(reached) == len(ratios) else f"met at {', '.join(reached)} only" if reached else "missed"
+    return Goal("a shift by a few pixels at most 1.5 times memcpy of the bitmap", text, met)
+
+
 def goals(results):
     large = [j for j in results.pairs() if pixels(j) >= LARGE]
     return [goal_careful(results), goal_before(results), goal_opencv(results, large), goal_memcpy(results, large),
-            goal_linear(results), goal_s(results)]
+            goal_linear(results), goal_s(results), goal_shift(results)]
 
 
 def machine(results):
@@ -417,6 +455,9 @@ def document(results):
         "window": window_table(results),
         "quadrants": quadrants_table(results),
         "quartered": quadrants_counted(results),
+        "shifts": shift_table(results),
+        "shifted": shift_counted(results),
+        "shifts_alike": f"{results.agreed_shifts} random bitmaps and moves",
         "s": s_table(results),
         "instructions": instruction_table(results),
         "machine": machine(results),
@@ -444,7 +485,8 @@ def main():
     with open(os.path.join(docs, "benchmark.svg"), "w") as f:
         f.write(picture(results))
     for text in (pair_table(results), default_table(results), series_table(results), order_table(results),
-                 numbers_table(results), window_table(results), quadrants_table(results), quadrants_counted(results)):
+                 numbers_table(results), window_table(results), quadrants_table(results), quadrants_counted(results),
+                 shift_table(results), shift_counted(results)):
         print(text + "\n")
     for goal in goals(results):
         print(f"{goal.met}: {goal.text}: {goal.measured}")

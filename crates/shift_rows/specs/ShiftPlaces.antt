@@ -7,7 +7,7 @@ use Rattle.rules.specs.Sums.{gate}
 use Rattle.rules.specs.Frames.{Frame}
 use Rattle.words.specs.declared.moves.Move.{Move}
 use Rattle.words.specs.Rows.{back, bias}
-use Rattle.words.specs.Moves.{movedRow}
+use Rattle.words.specs.MovedRows.{movedRow}
 
 -- a word of a row that has no source row
 abbrev pub blank : ℕ → ℕ

@@ -5,11 +5,11 @@ use Prim.Native.Nat.{ℕ, _+_, _*_, _≤_, _<_}
 use lib.ListN.{length, getD}
 use Rattle.rules.specs.Frames.{Frame}
 use Rattle.words.specs.declared.moves.Move.{Move}
-use Rattle.words.specs.Moves.{movedWord, movedRow}
+use Rattle.words.specs.MovedRows.{movedRow}
 
--- the words of a moved row from word `first` on
-abbrev pub movedFrom : List ℕ → ℕ → ℕ → ℕ → ℕ → ℕ → ℕ
-movedFrom words from w d first k = movedWord words from w d (first + k)
+-- the words of a row from word `first` on
+abbrev pub fromWord : ℕ → (ℕ → ℕ) → ℕ → ℕ
+fromWord first f k = f (first + k)
 
 -- the moved rows of a bitmap that begins at `from`, word k of row y
 abbrev pub movedRows : List ℕ → ℕ → Move → Frame

@@ -10,7 +10,8 @@ ghost use lib.ListN.{length};
 ghost use Rattle.rules.specs.Limits.{wordBits};
 ghost use Rattle.rules.specs.Buffers.{RowAt};
 ghost use Rattle.words.specs.Moves.{Moves};
-ghost use Rattle.slide_words.specs.Slides.{movedFrom, movedRows, Columns, Interiors};
+ghost use Rattle.words.specs.MovedRows.{movedWord};
+ghost use Rattle.slide_words.specs.Slides.{fromWord, movedRows, Columns, Interiors};
 
 // Word k of every row. What it is made of is the same for all rows, so the compiler tests it once.
 fn slide_column(words: &mut [u64], from: usize, m: Move, h: usize, to: usize, k: usize)
@@ -58,7 +59,7 @@ fn slide_run(words: &mut [u64], from: usize, m: Move, h: usize, to: usize)
     requires some { ⌜ (m .first < m .end) × (0 < h) ⌝ }
     requires apart { ⌜ from + m .n * h ≤ to ⌝ }
     requires room { ⌜ to + m .n * h ≤ length (now words) ⌝ }
-    ensures { λ _. ⌜ RowAt (to + m .first) (movedFrom (now (words .entry)) from (m .n * h * wordBits) (m .q * wordBits + m .r) (m .first))
+    ensures { λ _. ⌜ RowAt (to + m .first) (fromWord (m .first) (movedWord (now (words .entry)) from (m .n * h * wordBits) (m .q) (m .r)))
         (now (words .entry)) ((h - 1) * m .n + m .end - m .first) (now (words .exit)) ⌝ }
 {
     let mut k = m.first;

@@ -1,25 +1,15 @@
--- Rows moved sideways by a number of places that is counted from the bias, and the words that a moved row is made of.
+-- Rows moved sideways by a number of pixels that is counted from the bias, and a move as it is worked out once for all rows.
 use mathlib.Core.Path.{_≡_}
 use mathlib.Core.List.{List}
-use Prim.Native.Nat.{ℕ, _+_, _*_, _-_, _/_, _%_, _≤_, _<_}
-use lib.Dec.{ltb}
+use Prim.Native.Nat.{ℕ, _+_, _-_, _/_, _%_, _≤_, _<_}
 use Rattle.rules.specs.Limits.{maxSide, wordBits}
-use Rattle.rules.specs.Sums.{gate}
-use Rattle.rules.specs.Bitmaps.{bit, rowWords, word}
+use Rattle.rules.specs.Bitmaps.{bit, rowWords}
 use Rattle.words.specs.declared.moves.Move.{Move}
 use Rattle.words.specs.Rows.{rowBit, back, bias, biasWords}
 
 -- pixel x of the row of w pixels whose words begin at `from`, moved by d places, d counted from the bias
 unfoldable pub movedBit : List ℕ → ℕ → ℕ → ℕ → ℕ → ℕ
 movedBit words from w d x = back (rowBit words from w) d (bias + x)
-
--- word k of it, with its bits past w as 0
-unfoldable pub movedWord : List ℕ → ℕ → ℕ → ℕ → ℕ → ℕ
-movedWord words from w d k = word (λ i. gate (ltb (k * wordBits + i) w) (movedBit words from w d (k * wordBits + i)))
-
--- the same from a move's quotient and remainder by the bits of a word
-abbrev pub movedRow : List ℕ → ℕ → Move → ℕ → ℕ
-movedRow words from m = movedWord words from (m .w) (m .q * wordBits + m .r)
 
 -- the bits of `high` moved up by r, below them the topmost r bits of `low`
 pub record Joined (high low r v : ℕ) : Type 0 where

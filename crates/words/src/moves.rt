@@ -5,11 +5,14 @@ use crate::WORD_BITS;
 use crate::keep_low;
 use crate::moved_word;
 use crate::row_words;
+use word_distance::quotient;
+use word_distance::remainder;
 ghost use mathlib.Core.Path.{_≡_};
 ghost use Prim.Native.Nat.{_+_, _*_, _<_, _≤_, min, max};
 ghost use lib.ListN.{length};
 ghost use Rattle.rules.specs.Limits.{maxSide, wordBits};
-ghost use Rattle.words.specs.Moves.{Moves, Joined, movedRow};
+ghost use Rattle.words.specs.Moves.{Moves, Joined};
+ghost use Rattle.words.specs.MovedRows.{movedRow};
 
 // A move of rows of w pixels, in n words, by q words, counted from the bias, and r bits. A word from
 // `first` up to `end` is interior: it is made of two words of the row, all three of them full, and so
@@ -42,7 +45,8 @@ pub fn move_by(w: usize, d: usize) -> Move
     ensures { λ m. ⌜ (m .w ≡ w) × ((m .q * wordBits + m .r ≡ d) × Moves m) ⌝ }
 {
     let n = row_words(w);
-    let q = d / WORD_BITS;
+    let q = quotient(d);
+    let r = remainder(d);
     let full = w / WORD_BITS;
     let end = smaller(full, larger(q + full, BIAS_WORDS) - BIAS_WORDS);
     let first = smaller(end, larger(q + 1, BIAS_WORDS) - BIAS_WORDS);
@@ -51,7 +55,7 @@ pub fn move_by(w: usize, d: usize) -> Move
         w,
         n,
         q,
-        r: d % WORD_BITS,
+        r,
         first,
         rest,
         end,

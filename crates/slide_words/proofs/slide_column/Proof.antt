@@ -1,11 +1,11 @@
 -- The invariant: the word of the first y rows is written, and nothing else has changed.
-use mathlib.Core.Path.{_≡_}
+use mathlib.Core.Path.{_≡_, _∙_}
 use Prim.Native.Nat.{_+_, _*_, _-_, _≤_}
 use native.Mathlib.Omega.{arith}
 use borrow.Author.Needs.{needs}
 use Rattle.rules.proofs.FrameLaws.{row-fits}
 use Rattle.slide_words.specs.Slides.{movedRows, Columns}
-use Rattle.slide_words.proofs.SlideWordLaws.{column-more}
+use Rattle.slide_words.proofs.SlideWordLaws.{rows-under, columns-under, column-more}
 use Rattle.slide_words.proofs.slide_column.Statement.{statement}
 use Rattle.slide_words.proofs.slide_column.Tie as tie
 
@@ -60,8 +60,11 @@ loop-again c =
     let s = test .before .before .before in
     let a = s .args in (
       omega arith,
-      column-more (a .words .now) (L .words) (a .from) (a .m) (a .h) (a .to) (a .k) (L .y) (c .clipped-word .result) (s .pre .0 .row) (s .pre .1 .1 .0) (s .pre .1 .1 .1) (s .pre .1 .0)
-          (test .loop-test .taken) (L .inv .1) (c .clipped-word .ensures),
+      column-more (a .to) (a .m .n) (movedRows (a .words .now) (a .from) (a .m)) (a .h) (a .k) (L .y) (c .clipped-word .result) (a .words .now) (L .words) (s .pre .1 .1 .1) (s .pre .1 .0)
+          (test .loop-test .taken) (L .inv .1)
+          (c .clipped-word .ensures
+          ∙ rows-under (a .words .now) (L .words) (a .from) (a .m) (a .h) (a .to) (a .k) (L .y) (s .pre .0 .row) (s .pre .1 .1 .0) (test .loop-test .taken)
+          (columns-under (a .to) (a .m .n) (movedRows (a .words .now) (a .from) (a .m)) (a .k) (a .k + 1) (a .words .now) (L .y) (L .words) (L .inv .1))),
     )
 
 same-length : tie.Need-same-length Inv-loop μ-loop

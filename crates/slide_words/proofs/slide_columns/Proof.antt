@@ -1,10 +1,10 @@
 -- The invariant: the columns from `first` up to k are written, and nothing else has changed.
 use mathlib.Core.Path.{_≡_}
-use Prim.Native.Nat.{_-_, _≤_}
+use Prim.Native.Nat.{_+_, _-_, _≤_}
 use native.Mathlib.Omega.{arith}
 use borrow.Author.Needs.{needs}
 use Rattle.slide_words.specs.Slides.{movedRows, Columns}
-use Rattle.slide_words.proofs.SlideWordLaws.{columns-more}
+use Rattle.slide_words.proofs.SlideWordLaws.{rows-under, columns-under, columns-same, columns-more}
 use Rattle.slide_words.proofs.slide_columns.Statement.{statement}
 use Rattle.slide_words.proofs.slide_columns.Tie as tie
 
@@ -40,8 +40,12 @@ loop-again c =
       omega arith,
       (
         omega arith,
-        columns-more (a .words .now) (L .words) (column .slide-column .last .0) (a .from) (a .m) (a .h) (a .to) (a .first) (L .k) (s .pre .0 .row) (s .pre .1 .1 .0) (L .inv .0) (omega arith)
-            (L .inv .1 .1) (column .slide-column .ensures),
+        columns-more (a .to) (a .m .n) (movedRows (a .words .now) (a .from) (a .m)) (a .h) (a .first) (L .k) (a .words .now) (L .words) (column .slide-column .last .0) (L .inv .0) (omega arith)
+            (L .inv .1 .1)
+            (columns-same (a .to) (a .m .n) (movedRows (L .words) (a .from) (a .m)) (movedRows (a .words .now) (a .from) (a .m)) (L .k) (L .k + 1) (L .words) (a .h) (column .slide-column .last .0)
+            (λ k z l. rows-under (a .words .now) (L .words) (a .from) (a .m) (a .h) (a .to) k z (s .pre .0 .row) (s .pre .1 .1 .0) l
+            (columns-under (a .to) (a .m .n) (movedRows (a .words .now) (a .from) (a .m)) (a .first) (L .k) (a .words .now) (a .h) (L .words) (L .inv .1 .1)))
+            (column .slide-column .ensures)),
       ),
     )
 

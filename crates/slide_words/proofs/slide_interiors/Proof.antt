@@ -22,7 +22,7 @@ returns-3 c =
     let s = c .before .before .before .before .before .before .before .before in
     let a = s .args in
     let run = c .before .before .slide-run in
-    run-interiors (a .words .now) (run .last .0) (a .from) (a .m) (a .h) (a .to) (s .pre .0) (omega (arith, s .pre .0)) (omega arith) (run .ensures)
+    run-interiors (a .words .now) (a .words .now) (run .last .0) (a .from) (a .m) (a .h) (a .to) (s .pre .0) (omega (arith, s .pre .0)) (omega arith) (run .ensures)
 
 pub slide-interiors-spec : {M : Type 1} → statement M
 slide-interiors-spec =

@@ -1,20 +1,21 @@
 -- The invariant: the words up to k are written, and nothing else has changed.
-use mathlib.Core.Path.{_≡_, refl}
-use Prim.Native.Nat.{_+_, _*_, _-_, _/_, _≤_}
+use mathlib.Core.Path.{_≡_, refl, _∙_}
+use Prim.Native.Nat.{ℕ, _+_, _*_, _-_, _/_, _≤_}
 use native.Mathlib.Omega.{arith}
 use borrow.Author.Needs.{needs}
 use Rattle.rules.specs.Buffers.{RowAt}
 use Rattle.rules.proofs.FrameLaws.{row-fits}
 use Rattle.words.specs.Moves.{Interior}
-use Rattle.words.proofs.MovedRowLaws.{interior-moved}
-use Rattle.slide_words.specs.Slides.{movedFrom}
+use Rattle.words.specs.MovedRows.{movedWord}
+use Rattle.words.proofs.MovedRowLaws.{interior-moved, moved-under}
+use Rattle.slide_words.specs.Slides.{fromWord}
 use Rattle.slide_words.proofs.SlideWordLaws.{part-none, part-more, long-words, run-inside}
 use Rattle.slide_words.proofs.slide_run.Statement.{statement}
 use Rattle.slide_words.proofs.slide_run.Tie as tie
 
 abbrev Inv-loop : tie.InvT-loop
 Inv-loop words₀ from m h to k₀ end words k =
-    (m .first ≤ k) × ((k ≤ end) × RowAt (to + m .first) (movedFrom words₀ from (m .n * h * 64) (m .q * 64 + m .r) (m .first)) words₀ (k - m .first) words)
+    (m .first ≤ k) × ((k ≤ end) × RowAt (to + m .first) (fromWord (m .first) (movedWord words₀ from (m .n * h * 64) (m .q) (m .r))) words₀ (k - m .first) words)
 
 abbrev μ-loop : tie.MeasureT-loop
 μ-loop words₀ from m h to k₀ end words k = end - k
@@ -41,7 +42,7 @@ loop-holds : tie.Need-loop-holds Inv-loop μ-loop
 loop-holds c =
     let s = c .before .before .before in
     let a = s .args in
-    (omega arith, (omega arith, part-none (a .words .now) (a .from) (a .m .n * a .h * 64) (a .m .q * 64 + a .m .r) (a .to) (a .m .first)))
+    (omega arith, (omega arith, part-none (movedWord (a .words .now) (a .from) (a .m .n * a .h * 64) (a .m .q) (a .m .r)) (a .words .now) (a .to) (a .m .first)))
 
 add-j : tie.Need-add-j Inv-loop μ-loop
 add-j c = omega (arith, inside c)
@@ -92,14 +93,15 @@ loop-again c =
     let a = s .args in
     let L = test .before .loop in
     let n = inside test in
+    let w : ℕ = a .m .n * a .h * 64 in
     let e = long-words (a .m .n * a .h) in (
       omega arith,
       (
         omega arith,
-        part-more (a .words .now) (L .words) (a .from) (a .m .n * a .h * 64) (a .m .q * 64 + a .m .r) (a .to) (a .m .first) (L .k) (c .joined-word .result) (omega arith) (L .inv .0) (omega arith)
-            (L .inv .1 .1)
-            (interior-moved (L .words) (a .from) (a .m .n * a .h * 64) (a .m .q) (a .m .r) (L .k) (a .from + L .k + 33554432 - a .m .q) (c .joined-word .result) (c .joined-word .ok) (s .pre .0 .bits)
-            n refl (c .joined-word .ensures)),
+        part-more (movedWord (a .words .now) (a .from) w (a .m .q) (a .m .r)) (a .words .now) (L .words) (a .to) (a .m .first) (L .k) (c .joined-word .result) (L .inv .0) (omega arith) (L .inv .1 .1)
+            (interior-moved (L .words) (a .from) w (a .m .q) (a .m .r) (L .k) (a .from + L .k + 33554432 - a .m .q) (c .joined-word .result) (c .joined-word .ok) (s .pre .0 .bits)
+            n refl (c .joined-word .ensures)
+            ∙ moved-under (a .words .now) (L .words) (a .to) (a .from) w (a .m .q) (a .m .r) (L .k) (λ i l. L .inv .1 .1 .under i (omega arith)) (omega arith)),
       ),
     )
 

@@ -26,7 +26,7 @@ returns : tie.Need-returns
 returns c =
     let s = c .before .before .before .before in
     let a = s .args in
-    clipped-moved (a .words .now) (a .from) (a .m .w) (a .m .q * 64 + a .m .r) (a .k) (c .before .before .moved-word .result) (c .keep-low .result) (c .keep-low .ok)
+    clipped-moved (a .words .now) (a .from) (a .m .w) (a .m .q) (a .m .r) (a .k) (c .before .before .moved-word .result) (c .keep-low .result) (s .pre .0 .bits) (c .keep-low .ok)
     (c .before .before .moved-word .ensures) (c .keep-low .ensures)
 
 pub clipped-word-spec : {M : Type 1} → statement M

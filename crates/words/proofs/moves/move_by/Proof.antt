@@ -10,6 +10,12 @@ use Rattle.words.proofs.moves.move_by.Tie as tie
 row-words-requires : tie.Need-row-words-requires
 row-words-requires c κs = search needs
 
+quotient-requires : tie.Need-quotient-requires
+quotient-requires c κs = search needs
+
+remainder-requires : tie.Need-remainder-requires
+remainder-requires c κs = search needs
+
 add-larger : tie.Need-add-larger
 add-larger c = search needs
 
@@ -42,16 +48,18 @@ sub-rest-2 c = search needs
 
 returns : tie.Need-returns
 returns c =
-    let s = c .before .before .before .before .before in
+    let r = c .before .before .before .before .remainder in
+    let q = c .before .before .before .before .before .quotient in
+    let n = c .before .before .before .before .before .before .row-words in
+    let s = c .before .before .before .before .before .before .before in
     let a = s .args in
-    let n = c .before .before .before .before .row-words in
     let e = c .before .before .smaller in (
       refl,
       (
-        omega arith,
+        rw (q .ensures, r .ensures) (omega arith),
         moves
-            (record { w = a .w; n = n .result; q = a .d / 64; r = a .d % 64; first = c .smaller2 .result; rest = e .result - (e .result - c .smaller2 .result) % 7; end = e .result })
-            (a .d) (s .pre .0) (n .ensures) refl
+            (record { w = a .w; n = n .result; q = q .result; r = r .result; first = c .smaller2 .result; rest = e .result - (e .result - c .smaller2 .result) % 7; end = e .result })
+            (a .d) (s .pre .0) (n .ensures) (r .ensures)
             (rw (c .before .before .before .larger .ensures) at (e .ensures)) (rw (c .before .larger2 .ensures) at (c .smaller2 .ensures)) refl,
       ),
     )
@@ -61,6 +69,8 @@ move-by-spec =
     tie.close
     (tie.spec
     row-words-requires
+    quotient-requires
+    remainder-requires
     add-larger
     larger-requires
     sub-smaller

@@ -1,4 +1,4 @@
--- `shift::rows::clear_row` meets its contract. Invariant: the first k words at `to` are 0, and nothing else has changed.
+-- `shift::rows::clear_words` meets its contract. Invariant: the first k words at `to` are 0, and nothing else has changed.
 use native.Mathlib.Omega.{arith}
 use borrow.Author.Needs.{needs}
 use mathlib.Core.Path.{_≡_, refl}
@@ -7,8 +7,8 @@ use denote.Ref.{now}
 use Rattle.rules.specs.Buffers.{RowAt}
 use Rattle.rules.proofs.FrameLaws.{row-none, row-more}
 use Rattle.shift_rows.specs.ShiftPlaces.{blank}
-use Rattle.shift_rows.proofs.clear_row.Statement.{statement}
-use Rattle.shift_rows.proofs.clear_row.Tie as tie
+use Rattle.shift_rows.proofs.clear_words.Statement.{statement}
+use Rattle.shift_rows.proofs.clear_words.Tie as tie
 
 abbrev Inv-loop : tie.InvT-loop
 Inv-loop dst₀ to n k₀ dst k = (k ≤ n) × RowAt to blank dst₀ k dst
@@ -49,8 +49,8 @@ returns c =
     let e : L .k ≡ c .before .before .args .n = omega arith in
     rw e at (L .inv .1)
 
-pub clear-row-spec : {M : Type 1} → statement M
-clear-row-spec =
+pub clear-words-spec : {M : Type 1} → statement M
+clear-words-spec =
     tie.close
     (tie.spec
     Inv-loop

@@ -1,0 +1,101 @@
+// The words of a packed bitmap moved sideways from one memory into another: their interior words in one
+// run, and some columns of words of all rows. (`slide_words` has the same inside one memory.)
+
+use words::BIAS_WORDS;
+use words::moves::Move;
+use words::moves::clipped_word;
+use words::moves::joined_word;
+ghost use Prim.Native.Nat.{_+_, _*_, _-_, _≤_, _<_};
+ghost use lib.ListN.{length};
+ghost use Rattle.rules.specs.Limits.{wordBits};
+ghost use Rattle.rules.specs.Buffers.{RowAt, FrameAt};
+ghost use Rattle.words.specs.Moves.{Moves};
+ghost use Rattle.words.specs.MovedRows.{movedWord};
+ghost use Rattle.slide_words.specs.Slides.{fromWord, movedRows, Columns, Interiors};
+
+// Word k of every row. What it is made of is the same for all rows, so the compiler tests it once.
+fn move_column(src: &[u64], from: usize, dst: &mut [u64], to: usize, m: Move, h: usize, k: usize)
+    requires moves { ⌜ Moves m ⌝ }
+    requires here { ⌜ k < m .n ⌝ }
+    requires source { ⌜ from + m .n * h ≤ length (now src) ⌝ }
+    requires room { ⌜ to + m .n * h ≤ length (now dst) ⌝ }
+    ensures { λ _. ⌜ Columns to (m .n) (movedRows (now (src .entry)) from m) k (k + 1) (now (dst .entry)) h (now (dst .exit)) ⌝ }
+{
+    let mut y: usize = 0;
+    while y < h {
+        let row = y * m.n;
+        dst[to + (row + k)] = clipped_word(src, from + row, m, k);
+        y += 1;
+    }
+}
+
+// The words from `first` up to `end` of every row.
+fn move_columns(
+    src: &[u64],
+    from: usize,
+    dst: &mut [u64],
+    to: usize,
+    m: Move,
+    h: usize,
+    first: usize,
+    end: usize,
+)
+    requires moves { ⌜ Moves m ⌝ }
+    requires span { ⌜ (first ≤ end) × (end ≤ m .n) ⌝ }
+    requires source { ⌜ from + m .n * h ≤ length (now src) ⌝ }
+    requires room { ⌜ to + m .n * h ≤ length (now dst) ⌝ }
+    ensures { λ _. ⌜ Columns to (m .n) (movedRows (now (src .entry)) from m) first end (now (dst .entry)) h (now (dst .exit)) ⌝ }
+{
+    let mut k = first;
+    while k < end {
+        move_column(src, from, dst, to, m, h, k);
+        k += 1;
+    }
+}
+
+// The interior words of all rows in one run, as if the rows were one: two words joined, with no test and
+// no mask. The words between two rows' interiors are written too, and are still wrong after it.
+fn move_run(src: &[u64], from: usize, dst: &mut [u64], to: usize, m: Move, h: usize)
+    requires moves { ⌜ Moves m ⌝ }
+    requires some { ⌜ (m .first < m .end) × (0 < h) ⌝ }
+    requires source { ⌜ from + m .n * h ≤ length (now src) ⌝ }
+    requires room { ⌜ to + m .n * h ≤ length (now dst) ⌝ }
+    ensures { λ _. ⌜ RowAt (to + m .first) (fromWord (m .first) (movedWord (now (src .entry)) from (m .n * h * wordBits) (m .q) (m .r)))
+        (now (dst .entry)) ((h - 1) * m .n + m .end - m .first) (now (dst .exit)) ⌝ }
+{
+    let mut k = m.first;
+    let end = (h - 1) * m.n + m.end;
+    while k < end {
+        let j = from + k + BIAS_WORDS - m.q;
+        dst[to + k] = joined_word(src[j], src[j - 1], m.r);
+        k += 1;
+    }
+}
+
+// The interior words of all rows, if there are any.
+fn move_interiors(src: &[u64], from: usize, dst: &mut [u64], to: usize, m: Move, h: usize)
+    requires moves { ⌜ Moves m ⌝ }
+    requires source { ⌜ from + m .n * h ≤ length (now src) ⌝ }
+    requires room { ⌜ to + m .n * h ≤ length (now dst) ⌝ }
+    ensures { λ _. ⌜ Interiors to h m (movedRows (now (src .entry)) from m) (now (dst .entry)) (now (dst .exit)) ⌝ }
+{
+    if h == 0 {
+        return;
+    }
+    if m.first == m.end {
+        return;
+    }
+    move_run(src, from, dst, to, m, h);
+}
+
+// The h rows from place `from` of one memory on, moved sideways, written from place `to` of the other on.
+pub fn move_rows(src: &[u64], from: usize, dst: &mut [u64], to: usize, m: Move, h: usize)
+    requires moves { ⌜ Moves m ⌝ }
+    requires source { ⌜ from + m .n * h ≤ length (now src) ⌝ }
+    requires room { ⌜ to + m .n * h ≤ length (now dst) ⌝ }
+    ensures { λ _. ⌜ FrameAt to (m .n) (movedRows (now (src .entry)) from m) (now (dst .entry)) h (now (dst .exit)) ⌝ }
+{
+    move_interiors(src, from, dst, to, m, h);
+    move_columns(src, from, dst, to, m, h, 0, m.first);
+    move_columns(src, from, dst, to, m, h, m.end, m.n);
+}
