@@ -210,18 +210,7 @@ static void once(const char *name, uint32_t w, uint32_t h)
     give_back(&j);
 }
 
-static uint32_t number(const char *word) { return (uint32_t)strtoul(word, NULL, 10); }
-
 int main(int argc, char **argv)
 {
-    const char *mode = argc > 1 ? argv[1] : "";
-    if (argc == 3 && strcmp(mode, "agree") == 0)
-        agree(number(argv[2]));
-    else if (argc == 2 && strcmp(mode, "time") == 0)
-        time_all();
-    else if (argc == 5 && strcmp(mode, "once") == 0)
-        once(argv[2], number(argv[3]), number(argv[4]));
-    else
-        fail("usage: quadrants agree JOBS | time | once NAME W H");
-    return 0;
+    return do_mode(argc, argv, &(struct modes){"quadrants", agree, time_all, once});
 }

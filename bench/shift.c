@@ -1,6 +1,6 @@
 /* The offered shift at moves of a few pixels, beside memcpy of the bitmap.
  *
- *   shift agree MOVES             compares the library with the careful C shift on random bitmaps and moves
+ *   shift agree JOBS              compares the library with the careful C shift on random bitmaps and moves
  *   shift time                    times every size of the page, a line each contestant
  *   shift once NAME W H           all moves once by one contestant inside `measured`, for callgrind
  *
@@ -119,10 +119,10 @@ static int32_t random_move(uint32_t side, uint32_t *state)
     return (int32_t)(scene_random(state) % (2 * side + 131)) - (int32_t)(side + 65);
 }
 
-static void agree(uint32_t moves)
+static void agree(uint32_t jobs)
 {
     uint32_t state = SEED;
-    for (uint32_t i = 0; i < moves; i++) {
+    for (uint32_t i = 0; i < jobs; i++) {
         uint32_t w = 1 + scene_random(&state) % 400, h = 1 + scene_random(&state) % 100;
         struct job j = job_of(w, h, &state);
         uint64_t *kept = touched(8 * j.len);
@@ -130,7 +130,7 @@ static void agree(uint32_t moves)
         free(kept);
         give_back(&j);
     }
-    printf("agree shift\t%u\n", moves);
+    printf("agree shift\t%u\n", jobs);
 }
 
 /* ---- time ---- */
@@ -181,18 +181,7 @@ static void once(const char *name, uint32_t w, uint32_t h)
     give_back(&j);
 }
 
-static uint32_t number(const char *word) { return (uint32_t)strtoul(word, NULL, 10); }
-
 int main(int argc, char **argv)
 {
-    const char *mode = argc > 1 ? argv[1] : "";
-    if (argc == 3 && strcmp(mode, "agree") == 0)
-        agree(number(argv[2]));
-    else if (argc == 2 && strcmp(mode, "time") == 0)
-        time_all();
-    else if (argc == 5 && strcmp(mode, "once") == 0)
-        once(argv[2], number(argv[3]), number(argv[4]));
-    else
-        fail("usage: shift agree MOVES | time | once NAME W H");
-    return 0;
+    return do_mode(argc, argv, &(struct modes){"shift", agree, time_all, once});
 }

@@ -59,3 +59,21 @@ double median_ratio(const uint64_t *times, const uint64_t *library, uint32_t tur
     qsort(ratios, turns, sizeof ratios[0], ascending_ratios);
     return ratios[turns / 2];
 }
+
+static uint32_t number(const char *word) { return (uint32_t)strtoul(word, NULL, 10); }
+
+int do_mode(int argc, char **argv, const struct modes *m)
+{
+    const char *mode = argc > 1 ? argv[1] : "";
+    if (argc == 3 && strcmp(mode, "agree") == 0)
+        m->agree(number(argv[2]));
+    else if (argc == 2 && strcmp(mode, "time") == 0)
+        m->time();
+    else if (argc == 5 && strcmp(mode, "once") == 0)
+        m->once(argv[2], number(argv[3]), number(argv[4]));
+    else {
+        fprintf(stderr, "usage: %s agree JOBS | time | once NAME W H\n", m->name);
+        return 1;
+    }
+    return 0;
+}

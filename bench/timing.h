@@ -1,4 +1,4 @@
-/* What the programs of the benchmark use to take times. */
+/* What the programs of the benchmark share: times, and how they are asked. */
 #ifndef TIMING_H
 #define TIMING_H
 
@@ -26,5 +26,16 @@ struct spread spread_of(const uint64_t *times, uint32_t turns);
 /* How many times the library's time another contestant took: the median over the turns. Both ran within one turn,
  * so that a host that is slower for a second is slower for both. */
 double median_ratio(const uint64_t *times, const uint64_t *library, uint32_t turns);
+
+/* What a program can be asked: to compare on so many random jobs, to time, to do one contestant's work once. */
+struct modes {
+    const char *name; /* the program's */
+    void (*agree)(uint32_t jobs);
+    void (*time)(void);
+    void (*once)(const char *contestant, uint32_t w, uint32_t h);
+};
+
+/* Does what `main` was asked: agree JOBS, time, or once NAME W H. */
+int do_mode(int argc, char **argv, const struct modes *);
 
 #endif

@@ -1,2 +1,2 @@
--- Laws of a row in its place.
+-- Laws of rows in their places.
 pub mod PlacedRowLaws

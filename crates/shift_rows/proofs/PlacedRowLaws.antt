@@ -2,8 +2,8 @@
 use mathlib.Core.Path.{_≡_, refl, sym, ap, _∙_}
 use mathlib.Core.Logic.{_⊎_, inl, inr, ⊎-elim}
 use mathlib.Core.List.{List}
-use Prim.Native.Nat.{ℕ, _+_, _*_, _-_, _≤_, _<_, min, max}
-use native.Mathlib.Nat.{zero-add, add-mul, mul-comm, mul-le-mul-right}
+use Prim.Native.Nat.{ℕ, _+_, _*_, _-_, _/_, _≤_, _<_, min, max}
+use native.Mathlib.Nat.{zero-add, add-mul, mul-comm, mul-le-mul-left, mul-le-mul-right, div-lt-iff-lt-mul}
 use native.Mathlib.Omega.{arith}
 use lib.Dec.{ltb}
 use lib.ListN.{getD}
@@ -66,6 +66,10 @@ rows-fit n h y rows l =
     let d = mul-comm n rows in
     omega arith
 
+-- a quotient by more than 0
+pub quotient-fits : (a n : ℕ) → a / (n + 1) < a + 1
+quotient-fits a n = div-lt-iff-lt-mul {k = n + 1} {x = a} {y = a + 1} (omega arith) .1 (let c = mul-le-mul-left {m = 1} {n = n + 1} (a + 1) (omega arith) in omega arith)
+
 -- so do the rows above, those that are moved, where they come from and where they go to, and the rows below
 pub parts-room : (n h above below rows : ℕ) → rows ≡ h - above - below → above + below ≤ h
     → ((above * n + n * rows ≤ n * h) × ((below * n + n * rows ≤ n * h) × ((above + rows) * n + below * n ≤ n * h)))
@@ -116,8 +120,8 @@ module _ (h down above below : ℕ) (p : Parts h down above below) where
   pub parts-fit : above + below ≤ h
   parts-fit = ⊎-elim (λ (c : Up h down above below). omega arith) (λ (c : NotUp h down above below). omega arith) p
 
-  pub parts-whole : above + (h - above - below) + below ≡ h
-  parts-whole = let l = parts-fit in omega arith
+  pub parts-all : above + (h - above - below) + below ≡ h
+  parts-all = let l = parts-fit in omega arith
 
   above-under : (z : ℕ) → z < above → bias + z < down
   above-under z l = ⊎-elim (λ (c : Up h down above below). omega arith) (λ (c : NotUp h down above below). omega arith) p
@@ -151,7 +155,7 @@ module _ (src : List ℕ) (h : ℕ) (m : Move) (down above below : ℕ) (p : Par
       → RowAt ((above + (h - above - below)) * m .n) blank mid (below * m .n) after
       → FrameAt 0 (m .n) (placedRows src h m down) before h after
   all-placed before first mid after a b c =
-      rw (parts-whole h down above below p) at
+      rw (parts-all h down above below p) at
       (rows-more 0 (m .n) (placedRows src h m down) (λ k z. 0) (above + rows) below before mid after
       (rows-more 0 (m .n) (placedRows src h m down) (movedRows src (below * m .n) m) above rows before first mid
       (rows-blank 0 (m .n) (placedRows src h m down) above before first a placed-above)

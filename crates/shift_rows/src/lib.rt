@@ -13,8 +13,9 @@ ghost use Rattle.words.specs.Moves.{Moves};
 ghost use Rattle.slide_words.specs.Slides.{movedRows};
 ghost use Rattle.shift_rows.specs.ShiftPlaces.{blank, placedRows, Sized};
 
-// Few enough for their words to be in the nearest cache still when the words at their ends are written.
-const BLOCK_ROWS: usize = 32;
+// The words of a block, give or take a row: few enough to be in the nearest cache still when the words
+// at its rows' ends are written.
+const BLOCK_WORDS: usize = 2048;
 
 // The n words at `to`, of rows that have no source row.
 fn clear_words(dst: &mut [u64], to: usize, n: usize)
@@ -35,9 +36,10 @@ fn move_blocks(src: &[u64], from: usize, dst: &mut [u64], to: usize, m: Move, h:
     requires room { ⌜ to + m .n * h ≤ length (now dst) ⌝ }
     ensures { λ _. ⌜ FrameAt to (m .n) (movedRows (now (src .entry)) from m) (now (dst .entry)) h (now (dst .exit)) ⌝ }
 {
+    let block = BLOCK_WORDS / (m.n + 1) + 1;
     let mut y: usize = 0;
     while y < h {
-        let rows = smaller(BLOCK_ROWS, h - y);
+        let rows = smaller(block, h - y);
         let done = y * m.n;
         move_rows(src, from + done, dst, to + done, m, rows);
         y += rows;

@@ -53,18 +53,28 @@ fn move_columns(
     }
 }
 
-// The interior words of all rows in one run, as if the rows were one: two words joined, with no test and
-// no mask. The words between two rows' interiors are written too, and are still wrong after it.
-fn move_run(src: &[u64], from: usize, dst: &mut [u64], to: usize, m: Move, h: usize)
+// The words from `first` up to `end` of all rows taken as one, among its interior words: two words
+// joined, with no test and no mask. The words between two rows' interiors are written too, and are still
+// wrong after it.
+fn move_run(
+    src: &[u64],
+    from: usize,
+    dst: &mut [u64],
+    to: usize,
+    m: Move,
+    h: usize,
+    first: usize,
+    end: usize,
+)
     requires moves { ⌜ Moves m ⌝ }
     requires some { ⌜ (m .first < m .end) × (0 < h) ⌝ }
+    requires span { ⌜ (m .first ≤ first) × ((first ≤ end) × (end ≤ (h - 1) * m .n + m .end)) ⌝ }
     requires source { ⌜ from + m .n * h ≤ length (now src) ⌝ }
     requires room { ⌜ to + m .n * h ≤ length (now dst) ⌝ }
-    ensures { λ _. ⌜ RowAt (to + m .first) (fromWord (m .first) (movedWord (now (src .entry)) from (m .n * h * wordBits) (m .q) (m .r)))
-        (now (dst .entry)) ((h - 1) * m .n + m .end - m .first) (now (dst .exit)) ⌝ }
+    ensures { λ _. ⌜ RowAt (to + first) (fromWord first (movedWord (now (src .entry)) from (m .n * h * wordBits) (m .q) (m .r)))
+        (now (dst .entry)) (end - first) (now (dst .exit)) ⌝ }
 {
-    let mut k = m.first;
-    let end = (h - 1) * m.n + m.end;
+    let mut k = first;
     while k < end {
         let j = from + k + BIAS_WORDS - m.q;
         dst[to + k] = joined_word(src[j], src[j - 1], m.r);
@@ -72,7 +82,8 @@ fn move_run(src: &[u64], from: usize, dst: &mut [u64], to: usize, m: Move, h: us
     }
 }
 
-// The interior words of all rows, if there are any.
+// The interior words of all rows, if there are any. All but at most one go in a run that begins at an
+// even place: there the two words that the compiler writes at a time are in one line of the cache.
 fn move_interiors(src: &[u64], from: usize, dst: &mut [u64], to: usize, m: Move, h: usize)
     requires moves { ⌜ Moves m ⌝ }
     requires source { ⌜ from + m .n * h ≤ length (now src) ⌝ }
@@ -85,7 +96,9 @@ fn move_interiors(src: &[u64], from: usize, dst: &mut [u64], to: usize, m: Move,
     if m.first == m.end {
         return;
     }
-    move_run(src, from, dst, to, m, h);
+    let even = m.first + (to + m.first) % 2;
+    move_run(src, from, dst, to, m, h, m.first, even);
+    move_run(src, from, dst, to, m, h, even, (h - 1) * m.n + m.end);
 }
 
 // The h rows from place `from` of one memory on, moved sideways, written from place `to` of the other on.

@@ -1,2 +1,2 @@
--- Laws of rows moved sideways inside the memory that they lie in.
+-- Laws of rows moved sideways, for the slide and for the shift.
 pub mod SlideWordLaws

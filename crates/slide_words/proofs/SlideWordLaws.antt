@@ -41,6 +41,23 @@ part-more f before mid to first k v l room a e =
     let s : first + (k - first) ≡ k = omega arith in
     rw (p, q) at (row-more (to + first) (fromWord first f) before (k - first) mid v (omega arith) a (e ∙ ap f (sym s)))
 
+-- the words up to b, and those from b on
+pub part-join : (f : ℕ → ℕ) (before mid after : List ℕ) (to a b c : ℕ) → a ≤ b → b ≤ c
+    → RowAt (to + a) (fromWord a f) before (b - a) mid → RowAt (to + b) (fromWord b f) mid (c - b) after
+    → RowAt (to + a) (fromWord a f) before (c - a) after
+part-join f before mid after to a b c l m r s = record {
+  len = s .len ∙ r .len;
+  under = λ i j. s .under i (omega arith) ∙ r .under i j;
+  done = λ k j. ⊎-elim (λ (n : k < b - a). s .under (to + a + k) (omega arith) ∙ r .done k n) (new k j) (order k (b - a));
+  over = λ i j. s .over i (omega arith) ∙ r .over i (omega arith);
+}
+  where
+    new : (k : ℕ) → k < c - a → b - a ≤ k → getD after (to + a + k) 0 ≡ f (a + k)
+    new k j n =
+        let p : to + a + k ≡ to + b + (a + k - b) = omega arith in
+        let q : b + (a + k - b) ≡ a + k = omega arith in
+        ap (λ (i : ℕ). getD after i 0) p ∙ s .done (a + k - b) (omega arith) ∙ ap f q
+
 -- ---- all rows as one
 
 -- the words of a row of n full words

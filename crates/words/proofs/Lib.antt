@@ -3,3 +3,4 @@ pub mod BitLaws
 pub mod MoveLaws
 pub mod JoinLaws
 pub mod MovedRowLaws
+pub mod MovedRowExampleLaws

@@ -24,52 +24,35 @@ use Rattle.words.proofs.JoinLaws.{WordIn, moved-word, raw-moved}
 
 -- ---- by words and bits, by pixels
 
-module _ (words : List ℕ) (from w q r k i : ℕ) (l : r < 64) (m : i < 64) where
-  -- a bit from the word q before it
-  above-pixel : r ≤ i → back (wordBit words from w (i - r)) q (biasWords + k) ≡ back (rowBit words from w) (q * 64 + r) (bias + (k * 64 + i))
-  above-pixel n = ⊎-elim under at (order (biasWords + k) q)
-    where
-      under : biasWords + k < q → back (wordBit words from w (i - r)) q (biasWords + k) ≡ back (rowBit words from w) (q * 64 + r) (bias + (k * 64 + i))
-      under o =
-          back-under (wordBit words from w (i - r)) q (biasWords + k) o
-          ∙ sym (back-under (rowBit words from w) (q * 64 + r) (bias + (k * 64 + i)) (omega arith))
+-- bit x of the word q before word k, and pixel p moved by d, where that is the same place
+word-pixel : (f : ℕ → ℕ) (q x d k p : ℕ) → x < 64 → d + (k * 64 + x) ≡ p + q * 64 → back (λ j. f (j * 64 + x)) q k ≡ back f d p
+word-pixel f q x d k p l e = ⊎-elim under at (order k q)
+  where
+    under : k < q → back (λ j. f (j * 64 + x)) q k ≡ back f d p
+    under m = back-under (λ j. f (j * 64 + x)) q k m ∙ sym (back-under f d p (omega arith))
 
-      at : q ≤ biasWords + k → back (wordBit words from w (i - r)) q (biasWords + k) ≡ back (rowBit words from w) (q * 64 + r) (bias + (k * 64 + i))
-      at o =
-          let j : ℕ = biasWords + k - q in
-          back-at (wordBit words from w (i - r)) q j (biasWords + k) (omega arith)
-          ∙ sym (back-at (rowBit words from w) (q * 64 + r) (j * 64 + (i - r)) (bias + (k * 64 + i)) (omega arith))
+    at : q ≤ k → back (λ j. f (j * 64 + x)) q k ≡ back f d p
+    at m = back-at (λ j. f (j * 64 + x)) q (k - q) k (omega arith) ∙ sym (back-at f d ((k - q) * 64 + x) p (omega arith))
 
-  -- one of the lowest r, from the word before that
-  below-pixel : i < r → back (wordBit words from w (64 - r + i)) (q + 1) (biasWords + k) ≡ back (rowBit words from w) (q * 64 + r) (bias + (k * 64 + i))
-  below-pixel n = ⊎-elim under at (order (biasWords + k) (q + 1))
-    where
-      under : biasWords + k < q + 1 → back (wordBit words from w (64 - r + i)) (q + 1) (biasWords + k) ≡ back (rowBit words from w) (q * 64 + r) (bias + (k * 64 + i))
-      under o =
-          back-under (wordBit words from w (64 - r + i)) (q + 1) (biasWords + k) o
-          ∙ sym (back-under (rowBit words from w) (q * 64 + r) (bias + (k * 64 + i)) (omega arith))
+joined-pixel : (words : List ℕ) (from w q r k i : ℕ) → r < 64 → i < 64 → joinedBit words from w q r k i ≡ movedBit words from w (q * 64 + r) (k * 64 + i)
+unfolding joinedBit movedBit
+joined-pixel words from w q r k i l m = ⊎-elim below above (order i r)
+  where
+    low : ℕ
+    low = back (wordBit words from w (64 - r + i)) (q + 1) (biasWords + k)
 
-      at : q + 1 ≤ biasWords + k → back (wordBit words from w (64 - r + i)) (q + 1) (biasWords + k) ≡ back (rowBit words from w) (q * 64 + r) (bias + (k * 64 + i))
-      at o =
-          let j : ℕ = biasWords + k - (q + 1) in
-          back-at (wordBit words from w (64 - r + i)) (q + 1) j (biasWords + k) (omega arith)
-          ∙ sym (back-at (rowBit words from w) (q * 64 + r) (j * 64 + (64 - r + i)) (bias + (k * 64 + i)) (omega arith))
+    high : ℕ
+    high = back (wordBit words from w (i - r)) q (biasWords + k)
 
-  joined-pixel : joinedBit words from w q r k i ≡ movedBit words from w (q * 64 + r) (k * 64 + i)
-  unfolding joinedBit movedBit
-  joined-pixel = ⊎-elim below above (order i r)
-    where
-      low : ℕ
-      low = back (wordBit words from w (64 - r + i)) (q + 1) (biasWords + k)
+    below : i < r → cond (ltb i r) low high ≡ back (rowBit words from w) (q * 64 + r) (bias + (k * 64 + i))
+    below n =
+        ap (λ (t : Bool). cond t low high) (lt-ltb i r n)
+        ∙ word-pixel (rowBit words from w) (q + 1) (64 - r + i) (q * 64 + r) (biasWords + k) (bias + (k * 64 + i)) (omega arith) (omega arith)
 
-      high : ℕ
-      high = back (wordBit words from w (i - r)) q (biasWords + k)
-
-      below : i < r → cond (ltb i r) low high ≡ back (rowBit words from w) (q * 64 + r) (bias + (k * 64 + i))
-      below n = ap (λ (t : Bool). cond t low high) (lt-ltb i r n) ∙ below-pixel n
-
-      above : r ≤ i → cond (ltb i r) low high ≡ back (rowBit words from w) (q * 64 + r) (bias + (k * 64 + i))
-      above n = ap (λ (t : Bool). cond t low high) (le-ltb i r n) ∙ above-pixel n
+    above : r ≤ i → cond (ltb i r) low high ≡ back (rowBit words from w) (q * 64 + r) (bias + (k * 64 + i))
+    above n =
+        ap (λ (t : Bool). cond t low high) (le-ltb i r n)
+        ∙ word-pixel (rowBit words from w) q (i - r) (q * 64 + r) (biasWords + k) (bias + (k * 64 + i)) (omega arith) (omega arith)
 
 pub by-pixels : ByPixels
 unfolding movedWord

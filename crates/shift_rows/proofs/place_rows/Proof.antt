@@ -4,7 +4,7 @@ use Prim.Native.Nat.{_+_, _*_, _-_, _≤_}
 use native.Mathlib.Omega.{arith}
 use borrow.Author.Needs.{needs}
 use denote.Ref.{now}
-use Rattle.shift_rows.proofs.PlacedRowLaws.{Parts, parts, parts-fit, parts-whole, parts-room, all-placed}
+use Rattle.shift_rows.proofs.PlacedRowLaws.{Parts, parts, parts-fit, parts-all, parts-room, all-placed}
 use Rattle.shift_rows.proofs.place_rows.Statement.{statement}
 use Rattle.shift_rows.proofs.place_rows.Tie as tie
 
@@ -24,7 +24,7 @@ room c =
 
 end : (c : tie.After-smaller2) → let a = c .before .before .before .before .before .args in let above = c .before .smaller .result in
     above + (a .h - above - c .smaller2 .result) + c .smaller2 .result ≡ a .h
-end c = let a = c .before .before .before .before .before .args in parts-whole (a .h) (a .down) (c .before .smaller .result) (c .smaller2 .result) (split c)
+end c = let a = c .before .before .before .before .before .args in parts-all (a .h) (a .down) (c .before .smaller .result) (c .smaller2 .result) (split c)
 
 larger-requires : tie.Need-larger-requires
 larger-requires c κs = search needs

@@ -5,7 +5,6 @@ use native.Mathlib.Omega.{arith}
 use borrow.Author.Needs.{needs}
 use denote.Ref.{now}
 use Rattle.rules.specs.Buffers.{RowAt}
-use Rattle.rules.proofs.FrameLaws.{row-fits}
 use Rattle.words.specs.Moves.{Interior}
 use Rattle.words.specs.MovedRows.{movedWord}
 use Rattle.words.proofs.MovedRowLaws.{interior-moved}
@@ -15,35 +14,23 @@ use Rattle.shift_words.proofs.move_run.Statement.{statement}
 use Rattle.shift_words.proofs.move_run.Tie as tie
 
 abbrev Inv-loop : tie.InvT-loop
-Inv-loop src from dst₀ to m h k₀ end dst k =
-    (m .first ≤ k) × ((k ≤ end) × RowAt (to + m .first) (fromWord (m .first) (movedWord src from (m .n * h * 64) (m .q) (m .r))) dst₀ (k - m .first) dst)
+Inv-loop src from dst₀ to m h first end k₀ dst k =
+    (first ≤ k) × ((k ≤ end) × RowAt (to + first) (fromWord first (movedWord src from (m .n * h * 64) (m .q) (m .r))) dst₀ (k - first) dst)
 
 abbrev μ-loop : tie.MeasureT-loop
-μ-loop src from dst₀ to m h k₀ end dst k = end - k
+μ-loop src from dst₀ to m h first end k₀ dst k = end - k
 
--- the rows' words fit
-room : (s : tie.Start Inv-loop μ-loop) → (s .args .h - 1) * s .args .m .n + s .args .m .n ≤ s .args .m .n * s .args .h
-room s = row-fits (s .args .m .n) (s .args .h) (s .args .h - 1) (omega arith)
-
-inside : (c : tie.In-loop Inv-loop μ-loop) → let a = c .before .before .before .before .before .before .args in Interior (a .m .n * a .h * 64 / 64) (a .m .q) (c .before .loop .k)
+-- each word is interior to all rows taken as one
+inside : (c : tie.In-loop Inv-loop μ-loop) → let a = c .before .before .before .before .args in Interior (a .m .n * a .h * 64 / 64) (a .m .q) (c .before .loop .k)
 inside c =
-    let s = c .before .before .before .before .before .before in
-    run-inside (s .args .m) (s .args .h) (c .before .loop .k) (s .pre .0) (s .pre .1 .0 .0) (s .pre .1 .0 .1) (c .before .loop .inv .0) (c .loop-test .taken)
-
-sub-end : tie.Need-sub-end Inv-loop μ-loop
-sub-end c = search needs
-
-mul-end : tie.Need-mul-end Inv-loop μ-loop
-mul-end c = omega (arith, room (c .before .before .before))
-
-add-end : tie.Need-add-end Inv-loop μ-loop
-add-end c = let s = c .before .before .before .before in omega (arith, room s, s .pre .0 .ends)
+    let s = c .before .before .before .before in
+    let span = s .pre .1 .1 .0 in
+    run-inside (s .args .m) (s .args .h) (c .before .loop .k) (s .pre .0) (s .pre .1 .0 .0) (s .pre .1 .0 .1) (omega arith) (omega arith)
 
 loop-holds : tie.Need-loop-holds Inv-loop μ-loop
 loop-holds c =
-    let s = c .before .before .before .before in
-    let a = s .args in
-    (omega arith, (omega arith, part-none (movedWord (now (a .src)) (a .from) (a .m .n * a .h * 64) (a .m .q) (a .m .r)) (now (a .dst)) (a .to) (a .m .first)))
+    let a = c .before .before .args in
+    (omega arith, (omega arith, part-none (movedWord (now (a .src)) (a .from) (a .m .n * a .h * 64) (a .m .q) (a .m .r)) (now (a .dst)) (a .to) (a .first)))
 
 add-j : tie.Need-add-j Inv-loop μ-loop
 add-j c = omega (arith, inside c)
@@ -90,7 +77,7 @@ loop-less c = search needs
 loop-again : tie.Need-loop-again Inv-loop μ-loop
 loop-again c =
     let test = c .before .before .before .before in
-    let s = test .before .before .before .before .before .before in
+    let s = test .before .before .before .before in
     let a = s .args in
     let L = test .before .loop in
     let n = inside test in
@@ -99,7 +86,7 @@ loop-again c =
       omega arith,
       (
         omega arith,
-        part-more (movedWord (now (a .src)) (a .from) w (a .m .q) (a .m .r)) (now (a .dst)) (L .dst) (a .to) (a .m .first) (L .k) (c .joined-word .result) (L .inv .0) (omega arith) (L .inv .1 .1)
+        part-more (movedWord (now (a .src)) (a .from) w (a .m .q) (a .m .r)) (now (a .dst)) (L .dst) (a .to) (a .first) (L .k) (c .joined-word .result) (L .inv .0) (omega arith) (L .inv .1 .1)
             (interior-moved (now (a .src)) (a .from) w (a .m .q) (a .m .r) (L .k) (a .from + L .k + 33554432 - a .m .q) (c .joined-word .result) (c .joined-word .ok) (s .pre .0 .bits)
             n refl (c .joined-word .ensures)),
       ),
@@ -110,9 +97,8 @@ same-length c = search needs
 
 returns : tie.Need-returns Inv-loop μ-loop
 returns c =
-    let a = c .before .before .before .before .before .before .args in
     let L = c .before .loop in
-    let e : L .k ≡ (a .h - 1) * a .m .n + a .m .end = omega arith in
+    let e : L .k ≡ c .before .before .before .before .args .end = omega arith in
     rw e at (L .inv .1 .1)
 
 pub move-run-spec : {M : Type 1} → statement M
@@ -121,9 +107,6 @@ move-run-spec =
     (tie.spec
     Inv-loop
     μ-loop
-    sub-end
-    mul-end
-    add-end
     loop-holds
     add-j
     add-j-2

@@ -1,5 +1,4 @@
 -- A word of the moved row, masked.
-use Prim.Native.Nat.{_+_, _*_}
 use native.Mathlib.Omega.{arith}
 use borrow.Author.Needs.{needs}
 use Rattle.words.proofs.MoveLaws.{row-words-under, row-words-max}

@@ -1,6 +1,6 @@
 -- The words from `first` up to `end` are interior: omega over the clamps.
 use mathlib.Core.Path.{refl}
-use Prim.Native.Nat.{_-_, _/_, _%_}
+use Prim.Native.Nat.{_-_, _%_}
 use native.Mathlib.Omega.{arith}
 use borrow.Author.Needs.{needs}
 use Rattle.words.proofs.JoinLaws.{moves}
