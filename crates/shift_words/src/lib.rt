@@ -5,13 +5,13 @@ use words::BIAS_WORDS;
 use words::moves::Move;
 use words::moves::clipped_word;
 use words::moves::joined_word;
-ghost use Prim.Native.Nat.{_+_, _*_, _-_, _≤_, _<_};
+ghost use mathlib.Core.Path.{_≡_};
+ghost use Prim.Native.Nat.{_+_, _*_, _≤_, _<_};
 ghost use lib.ListN.{length};
-ghost use Rattle.rules.specs.Limits.{wordBits};
-ghost use Rattle.rules.specs.Buffers.{RowAt, FrameAt};
+ghost use Rattle.rules.specs.Buffers.{FrameAt};
 ghost use Rattle.words.specs.Moves.{Moves};
-ghost use Rattle.words.specs.MovedRows.{movedWord};
-ghost use Rattle.slide_words.specs.Slides.{fromWord, movedRows, Columns, Interiors};
+ghost use Rattle.slide_words.specs.Slides.{movedRows, Columns, Interiors};
+ghost use Rattle.shift_words.specs.Runs.{RunIn, RunAt};
 
 // Word k of every row. What it is made of is the same for all rows, so the compiler tests it once.
 fn move_column(src: &[u64], from: usize, dst: &mut [u64], to: usize, m: Move, h: usize, k: usize)
@@ -53,9 +53,52 @@ fn move_columns(
     }
 }
 
-// The words from `first` up to `end` of all rows taken as one, among its interior words: two words
-// joined, with no test and no mask. The words between two rows' interiors are written too, and are still
-// wrong after it.
+// The words from `first` up to `end` of all rows taken as one, among its interior words. The words
+// between two rows' interiors are written too, and are still wrong after it. Two words are joined, with
+// no test and no mask.
+fn join_run(
+    src: &[u64],
+    from: usize,
+    dst: &mut [u64],
+    to: usize,
+    m: Move,
+    h: usize,
+    first: usize,
+    end: usize,
+)
+    requires { ⌜ RunIn m h first end from (length (now src)) to (length (now dst)) ⌝ }
+    ensures { λ _. ⌜ RunAt (now (src .entry)) from m h to first end (now (dst .entry)) (now (dst .exit)) ⌝ }
+{
+    let mut k = first;
+    while k < end {
+        let j = from + k + BIAS_WORDS - m.q;
+        dst[to + k] = joined_word(src[j], src[j - 1], m.r);
+        k += 1;
+    }
+}
+
+// The same of a move by whole words alone, as by 0, at the speed of a copy.
+fn copy_run(
+    src: &[u64],
+    from: usize,
+    dst: &mut [u64],
+    to: usize,
+    m: Move,
+    h: usize,
+    first: usize,
+    end: usize,
+)
+    requires run { ⌜ RunIn m h first end from (length (now src)) to (length (now dst)) ⌝ }
+    requires bits { ⌜ m .r ≡ 0 ⌝ }
+    ensures { λ _. ⌜ RunAt (now (src .entry)) from m h to first end (now (dst .entry)) (now (dst .exit)) ⌝ }
+{
+    let mut k = first;
+    while k < end {
+        dst[to + k] = src[from + k + BIAS_WORDS - m.q];
+        k += 1;
+    }
+}
+
 fn move_run(
     src: &[u64],
     from: usize,
@@ -66,24 +109,19 @@ fn move_run(
     first: usize,
     end: usize,
 )
-    requires moves { ⌜ Moves m ⌝ }
-    requires some { ⌜ (m .first < m .end) × (0 < h) ⌝ }
-    requires span { ⌜ (m .first ≤ first) × ((first ≤ end) × (end ≤ (h - 1) * m .n + m .end)) ⌝ }
-    requires source { ⌜ from + m .n * h ≤ length (now src) ⌝ }
-    requires room { ⌜ to + m .n * h ≤ length (now dst) ⌝ }
-    ensures { λ _. ⌜ RowAt (to + first) (fromWord first (movedWord (now (src .entry)) from (m .n * h * wordBits) (m .q) (m .r)))
-        (now (dst .entry)) (end - first) (now (dst .exit)) ⌝ }
+    requires { ⌜ RunIn m h first end from (length (now src)) to (length (now dst)) ⌝ }
+    ensures { λ _. ⌜ RunAt (now (src .entry)) from m h to first end (now (dst .entry)) (now (dst .exit)) ⌝ }
 {
-    let mut k = first;
-    while k < end {
-        let j = from + k + BIAS_WORDS - m.q;
-        dst[to + k] = joined_word(src[j], src[j - 1], m.r);
-        k += 1;
+    if m.r == 0 {
+        copy_run(src, from, dst, to, m, h, first, end);
+        return;
     }
+    join_run(src, from, dst, to, m, h, first, end);
 }
 
 // The interior words of all rows, if there are any. All but at most one go in a run that begins at an
-// even place: there the two words that the compiler writes at a time are in one line of the cache.
+// even place: the compiler writes two words at a time, and where memory is aligned to both of them they
+// never cross a line of the cache.
 fn move_interiors(src: &[u64], from: usize, dst: &mut [u64], to: usize, m: Move, h: usize)
     requires moves { ⌜ Moves m ⌝ }
     requires source { ⌜ from + m .n * h ≤ length (now src) ⌝ }

@@ -3,7 +3,7 @@ use mathlib.Core.Path.{_≡_, sym, ap, _∙_}
 use mathlib.Core.Logic.{⊎-elim}
 use mathlib.Core.List.{List}
 use Prim.Native.Nat.{ℕ, _+_, _*_, _-_, _/_, _%_, _^_, _≤_, _<_, min, max}
-use native.Mathlib.Nat.{add-zero, mod-lt, le-trans, lt-of-lt-of-le}
+use native.Mathlib.Nat.{add-zero, sub-zero, mod-lt, le-trans, lt-of-lt-of-le}
 use native.Mathlib.Omega.{arith}
 use lib.ListN.{getD}
 use lib.Bits.{bitOr}
@@ -53,6 +53,10 @@ joined-low high low r i l m =
 
 pub joined-is : (high low r : ℕ) → low < 2 ^ 64 → r < 64 → Joined high low r (bitOr (high * 2 ^ r % 2 ^ 64) (low / 2 ^ 1 / 2 ^ (63 - r)))
 joined-is high low r b l = record { above = λ i m n. joined-high high low r i b l m n; below = λ i m. joined-low high low r i l m }
+
+-- moved by whole words alone
+pub joined-zero : (high low : ℕ) → Joined high low 0 high
+joined-zero high low = record { above = λ i l m. ap (bit high) (sym (sub-zero i)); below = λ i l. absurd (omega arith) }
 
 -- two words of f, s = k − q and the one before it, joined: as far as both are right
 joined-back : (f : ℕ → ℕ) (b q r k s high low v : ℕ) → r < 64 → 1 ≤ s → q + s ≡ k → WordIn b f s high → WordIn b f (s - 1) low → Joined high low r v

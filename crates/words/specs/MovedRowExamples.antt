@@ -4,7 +4,7 @@ use mathlib.Core.List.{List, [], _∷_}
 use Prim.Native.Nat.{ℕ, _+_, _/_, _%_, _^_}
 use lib.IntN.{ℤ, pos, negsuc}
 use Rattle.rules.specs.Limits.{wordBits}
-use Rattle.words.specs.Rows.{biasOf, biasWords}
+use Rattle.words.specs.Rows.{biasOf}
 use Rattle.words.specs.MovedRows.{movedWord}
 
 -- pixels 0 and 63 are 1

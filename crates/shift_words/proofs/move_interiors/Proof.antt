@@ -29,7 +29,15 @@ add-even-2 c = let s = c .before .before .before .before .before .before .before
 move-run-requires : tie.Need-move-run-requires
 move-run-requires c κs =
     let s = c .before .before .before .before .before .before .before .before in
-    (s .pre .0, ((omega (arith, s .pre .0), omega arith), ((omega arith, (omega arith, omega (arith, s .pre .0))), (s .pre .1 .0, s .pre .1 .1))))
+    record {
+      moves = s .pre .0;
+      some = (omega (arith, s .pre .0), omega arith);
+      after = omega arith;
+      span = omega arith;
+      before = omega (arith, s .pre .0);
+      source = s .pre .1 .0;
+      room = s .pre .1 .1;
+    }
 
 sub-move-run : tie.Need-sub-move-run
 sub-move-run c = search needs
@@ -43,7 +51,15 @@ add-move-run c = let s = c .before .before .before .before .before .before .befo
 move-run-requires-2 : tie.Need-move-run-requires-2
 move-run-requires-2 c κs =
     let s = c .before .before .before .before .before .before .before .before .before .before .before .before .before .before in
-    (s .pre .0, ((omega (arith, s .pre .0), omega arith), ((omega arith, (omega (arith, s .pre .0), omega arith)), (s .pre .1 .0, omega arith))))
+    record {
+      moves = s .pre .0;
+      some = (omega (arith, s .pre .0), omega arith);
+      after = omega arith;
+      span = omega (arith, s .pre .0);
+      before = omega arith;
+      source = s .pre .1 .0;
+      room = omega arith;
+    }
 
 same-length : tie.Need-same-length
 same-length c = search needs
