@@ -1,4 +1,4 @@
-/* An independent implementation of document 01 and document 02, Papers 1 to 4, written straight from their text, pixel by pixel.
+/* An independent implementation of document 01 and document 02, Papers 1 to 5, written straight from their text, pixel by pixel.
  *
  * It shares no code with the library and is meant to be read beside the documents: bitmaps are read and written a bit at a
  * time, differences are counted over single pixels, a threshold is found by counting, and speed does not matter.

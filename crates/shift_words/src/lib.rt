@@ -13,7 +13,8 @@ ghost use Rattle.words.specs.Moves.{Moves};
 ghost use Rattle.slide_words.specs.Slides.{movedRows, Columns, Interiors};
 ghost use Rattle.shift_words.specs.Runs.{RunIn, RunAt};
 
-// Word k of every row. What it is made of is the same for all rows, so the compiler tests it once.
+// Word k of every row. What it is made of is the same for all rows, so the compiler takes most of the
+// tests out of the loop.
 fn move_column(src: &[u64], from: usize, dst: &mut [u64], to: usize, m: Move, h: usize, k: usize)
     requires moves { ⌜ Moves m ⌝ }
     requires here { ⌜ k < m .n ⌝ }
@@ -99,6 +100,7 @@ fn copy_run(
     }
 }
 
+// The same of any move.
 fn move_run(
     src: &[u64],
     from: usize,

@@ -13,7 +13,8 @@ ghost use Rattle.words.specs.Moves.{Moves};
 ghost use Rattle.words.specs.MovedRows.{movedWord};
 ghost use Rattle.slide_words.specs.Slides.{fromWord, movedRows, Columns, Interiors};
 
-// Word k of every row. What it is made of is the same for all rows, so the compiler tests it once.
+// Word k of every row. What it is made of is the same for all rows, so the compiler takes most of the
+// tests out of the loop.
 fn slide_column(words: &mut [u64], from: usize, m: Move, h: usize, to: usize, k: usize)
     requires moves { ⌜ Moves m ⌝ }
     requires here { ⌜ k < m .n ⌝ }

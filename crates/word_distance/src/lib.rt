@@ -1,6 +1,6 @@
 // How far a move goes in packed words: whole words, and bits beyond them. It is worked out once a call,
-// and rows are moved by these two numbers alone. A move is counted from the bias, which is a multiple of
-// 64 above the least one, so that both round down for moves to the left too.
+// and rows are moved by these two numbers alone. Moves are counted from the least signed number, which
+// is a multiple of 64, so that both round down for moves to the left too.
 
 ghost use mathlib.Core.Path.{_≡_};
 ghost use Prim.Native.Nat.{_/_, _%_};

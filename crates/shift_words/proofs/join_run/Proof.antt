@@ -7,7 +7,7 @@ use denote.Ref.{now}
 use Rattle.words.specs.Moves.{Interior}
 use Rattle.words.specs.MovedRows.{movedWord}
 use Rattle.words.proofs.MovedRowLaws.{interior-moved}
-use Rattle.slide_words.proofs.SlideWordLaws.{part-none, part-more, long-words, run-inside}
+use Rattle.slide_words.proofs.SlideWordLaws.{part-none, part-more, run-inside}
 use Rattle.shift_words.specs.Runs.{RunAt}
 use Rattle.shift_words.proofs.join_run.Statement.{statement}
 use Rattle.shift_words.proofs.join_run.Tie as tie
@@ -79,8 +79,7 @@ loop-again c =
     let a = s .args in
     let L = test .before .loop in
     let n = inside test in
-    let w : ℕ = a .m .n * a .h * 64 in
-    let e = long-words (a .m .n * a .h) in (
+    let w : ℕ = a .m .n * a .h * 64 in (
       omega arith,
       (
         omega arith,
