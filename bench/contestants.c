@@ -8,6 +8,8 @@
 #include "careful.h"
 #include "mtb.h"
 
+enum { BAND = 8 };
+
 static size_t raster_len(const struct job *j) { return (size_t)3 * j->w * j->h; }
 
 /* A pair call of the library for a pair, a series call otherwise. */
@@ -44,6 +46,14 @@ static void least_move(const struct job *j, const struct memory *m, struct answe
     call_library(mtb_pair, mtb_series, j, m, a);
 }
 
+/* The calls by a noise band, one for all jobs: how wide it is does not change the work. */
+static void by_band(const struct job *j, const struct memory *m, struct answer *a)
+{
+    struct job banded = *j;
+    banded.tolerance = BAND; /* the band stands in the tolerance's place */
+    call_library(mtb_pair_band, mtb_series_band, &banded, m, a);
+}
+
 /* The careful C program, which counts compared pixels where it is told to write them. */
 static void call_careful(const struct job *j, const struct memory *m, struct answer *a, uint32_t *compared)
 {
@@ -77,6 +87,7 @@ static void copy(const struct job *j, const struct memory *m, struct answer *a)
 const struct contestant contestants[] = {
     {"library", library, ALL_NUMBERS},
     {"least move", least_move, NOTHING},
+    {"band", by_band, NOTHING},
     {"careful C", careful, ALL_NUMBERS},
     {"only differences", only_differences, OFFSETS_AND_COUNTS},
 #ifdef WITH_OPENCV

@@ -18,7 +18,7 @@
 #include "scene.h"
 #include "timing.h"
 
-enum { SEED = 2024, TOLERANCE = 4, PERCENTILE = 50, LEAST_TURNS = 15, MAX_CONTESTANTS = 6 };
+enum { SEED = 2024, TOLERANCE = 4, PERCENTILE = 50, LEAST_TURNS = 15, MAX_CONTESTANTS = 7 };
 
 /* What a timed job shows: the made scene, or random bytes, in which no word of a bitmap is empty. */
 enum content { SCENE, NOISE };

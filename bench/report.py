@@ -14,8 +14,10 @@ import plot
 LIBRARY, CAREFUL, OPENCV, MEMCPY = "library", "careful C", "OpenCV", "memcpy"
 NAMES = (LIBRARY, CAREFUL, OPENCV, MEMCPY)
 LEAST_MOVE = "least move"  # the library's calls in the other order
+BAND = "band"  # those in that order with a noise band in place of the tolerance
 ONLY = "only differences"  # the careful C program without compared numbers, as before Paper 2 but for inlined look-ups
-CALLS = {2: ("mtb_pair_ward", "mtb_pair"), 9: ("mtb_series_ward", "mtb_series")}  # by frames: LIBRARY's and LEAST_MOVE's
+# by frames: LIBRARY's, LEAST_MOVE's and BAND's
+CALLS = {2: ("mtb_pair_ward", "mtb_pair", "mtb_pair_band"), 9: ("mtb_series_ward", "mtb_series", "mtb_series_band")}
 KINDS = {2: "pair", 9: "9 frames"}
 COUNTED_SIZES = ((640, 480), (1920, 1080))  # the sizes at which instructions are counted, and the two orders compared
 # The library's instructions a pixel before Paper 2, by frames and size, the same in both orders; and of a single difference
@@ -35,7 +37,7 @@ WINDOW = 65 * 65  # moves of the window of single difference calls
 STEPS = (
     ("grey", r"to_grey|convert|mtb_pair|align_rasters|pair_in_order|pair::pair"),
     ("halving", r"halv"),
-    ("histogram and threshold", r"threshold_of|histogram|count_fours|bitmaps_within"),
+    ("histogram and threshold", r"threshold_of|histogram|count_fours|bitmaps_within|excluded|between"),
     ("bitmaps", r"pack"),
     ("difference counts", r"count|align_level|column|difference|overlap|slid|moved_word|clipped_word"),
     ("other", r""),
@@ -227,10 +229,10 @@ def call_cells(results, job, name):
 
 
 def order_table(results):
-    """A row each call, in both orders."""
+    """A row each call, in both orders and by a band."""
     rows = []
     for n, calls in CALLS.items():
-        for call, name in zip(calls, (LIBRARY, LEAST_MOVE)):
+        for call, name in zip(calls, (LIBRARY, LEAST_MOVE, BAND)):
             cells = [call_cells(results, Job("scene", w, h, n, 6), name) for w, h in COUNTED_SIZES]
             rows.append([f"`{call}`, {n} frames", *sum(cells, [])])
     head = [f"{w}×{h}, {what}" for w, h in COUNTED_SIZES for what in ("ms", "ratio to the kept call", "instructions a pixel")]
@@ -398,10 +400,21 @@ def goal_shift(results):
     return Goal("a shift by a few pixels at most 1.5 times memcpy of the bitmap", text, met)
 
 
+def goal_band(results):
+    """By a band against by a tolerance, in the same order, at every size."""
+    ratios = [(results.ratio(j, BAND, LEAST_MOVE), j) for j in results.pairs()]
+    most = max(ratios)[0]
+    text = told(ratios)
+    counted = [[results.counted(Job("scene", w, h, 2, 6), name) for name in (BAND, LEAST_MOVE)] for w, h in COUNTED_SIZES]
+    if None not in sum(counted, []):
+        text += "; instructions " + ", ".join(f"{band / tolerance:.3f}" for band, tolerance in counted)
+    return Goal("a pair by band at most 1.05 times the pair by tolerance", text, "met" if most <= 1.05 else "missed")
+
+
 def goals(results):
     large = [j for j in results.pairs() if pixels(j) >= LARGE]
     return [goal_careful(results), goal_before(results), goal_opencv(results, large), goal_memcpy(results, large),
-            goal_linear(results), goal_s(results), goal_shift(results)]
+            goal_linear(results), goal_s(results), goal_shift(results), goal_band(results)]
 
 
 def machine(results):
@@ -430,7 +443,7 @@ def reaches(job, true):
 def offsets_line(results):
     """Which contestants found the true offset of the scene's last frame, where s lets them."""
     said = []
-    for name in (LIBRARY, LEAST_MOVE, OPENCV):
+    for name in (LIBRARY, LEAST_MOVE, BAND, OPENCV):
         jobs = [(j, t[name]) for j, t in results.times.items() if j.content == "scene" and name in t and reaches(j, t[name].true)]
         wrong = [f"{size(j)}, n = {j.n}, s = {j.s}" for j, t in jobs if t.offset != t.true]
         if jobs:

@@ -19,6 +19,9 @@
  *               one before. Both sides must be 2^(s+2) at least (mtb_quadrants: a quadrant's sides); a
  *               pair's offset reaches 2^(s+1) - 1 pixels each way.
  *   tolerance   0 to 64. Pixels whose grey value is that close to the threshold are left out.
+ *   band        0 to 16, for mtb_pair_band and mtb_series_band in place of the tolerance. Left out are
+ *               pixels whose grey value lies from the threshold for percentile - band to that for
+ *               percentile + band, both included.
  *   percentile  17, 50 or 83: where the threshold lies among a frame's grey values; 50 is the median.
  *
  * RESULTS
@@ -69,7 +72,10 @@
 extern "C" {
 #endif
 
-/* Refusals. A function tests those that its comment lists, and gives the lowest that applies. */
+/*
+ * Refusals. A function tests those that its comment lists, in the order of the numbers but for 15, which
+ * stands in the place of 5, and gives the first that applies.
+ */
 enum mtb_refusal {
     MTB_ACCEPTED = 0,
     MTB_BAD_HEADER = 1,      /* the file has no P6 header, or one with a largest value other than 255 */
@@ -85,7 +91,8 @@ enum mtb_refusal {
     MTB_SHORT_MEMORY = 11,   /* the grey or the word work memory is shorter than needed */
     MTB_FAR_OFFSET = 12,     /* a number of the offsets is outside -32768 to 32767 */
     MTB_NOTHING_COMMON = 13, /* the common area has no column or no row */
-    MTB_BAD_ROW = 14         /* the row's y is not below the height */
+    MTB_BAD_ROW = 14,        /* the row's y is not below the height */
+    MTB_BAD_BAND = 15        /* the band is above 16; tested in the place of 5 */
 };
 
 /* ---- Frames ---- */
@@ -220,6 +227,35 @@ uint32_t mtb_series_ward(uint32_t w, uint32_t h, uint32_t s, uint32_t tolerance,
                          uint64_t *words, size_t words_len);
 
 /*
+ * mtb_pair and mtb_series with a noise band by rank in place of the tolerance. A tolerance is a number
+ * of grey steps, and what it leaves out depends on the camera's tone curve and exposure; a band is a
+ * number of percentiles. At each level a frame's pixels are left out whose grey value lies from the
+ * level's threshold for percentile - band to that for percentile + band, both included: about 2*band
+ * in a hundred, and those of the same grey. (The threshold for any percentile from 1 to 99 is as
+ * mtb_threshold tells it for 17, 50 and 83.) A band of 0 gives what the tolerance 0 gives. A bracket taken
+ * again with other exposures or another tone curve, brighter pixels staying brighter and equal ones
+ * equal, gets the same answer, whatever the band. docs/ACCURACY.md tells which band to take.
+ * Refusals: those of mtb_pair and mtb_series with 15 in the place of 5.
+ */
+uint32_t mtb_pair_band(uint32_t w, uint32_t h, uint32_t s, uint32_t band, uint32_t percentile,
+                       const uint8_t *first, size_t first_len,
+                       const uint8_t *second, size_t second_len,
+                       int32_t *dx, int32_t *dy,
+                       uint32_t *counts, size_t counts_len,
+                       uint32_t *compared, size_t compared_len,
+                       uint8_t *grey, size_t grey_len,
+                       uint64_t *words, size_t words_len);
+
+uint32_t mtb_series_band(uint32_t w, uint32_t h, uint32_t s, uint32_t band, uint32_t n, uint32_t r,
+                         const uint32_t *percentiles, size_t percentiles_len,
+                         const uint8_t *rasters, size_t rasters_len,
+                         int32_t *offsets, size_t offsets_len,
+                         uint32_t *counts, size_t counts_len,
+                         uint32_t *compared, size_t compared_len,
+                         uint8_t *grey, size_t grey_len,
+                         uint64_t *words, size_t words_len);
+
+/*
  * A warning of field rotation, as a mount with poor polar alignment causes it: the four quadrants of
  * both frames are aligned, each by itself. Each is w/2 by h/2 pixels, rounded down. The left ones begin
  * at column 0, the right ones at w - w/2, the upper ones at row 0, the lower ones at h - h/2: an odd
@@ -240,7 +276,7 @@ uint32_t mtb_quadrants(uint32_t w, uint32_t h, uint32_t s, uint32_t tolerance, u
                        uint64_t *words, size_t words_len);
 
 /*
- * The work memory of these five; of mtb_quadrants with a quadrant's w/2 and h/2 for w and h. Bytes of
+ * The work memory of these seven; of mtb_quadrants with a quadrant's w/2 and h/2 for w and h. Bytes of
  * grey: twice the pixels of all levels. Words of 64 bits: 6*W*h. For 1920 by 1080 and s = 6 that is
  * 5529000 bytes and 194400 words; the most, for 4096 by 4096 and s = 8, is 44739072 bytes and 1572864
  * words.

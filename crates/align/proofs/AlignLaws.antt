@@ -333,8 +333,7 @@ module _ (first second : ℕ) (S : Setup) (memory : ℕ) (f : Frames first secon
           high = let z = f .high in omega arith;
           height = let z = f .height in omega arith;
           halvings = let z = f .halvings in omega arith;
-          least = f .least;
-          most = f .most;
+          percentiles = f .percentiles;
           one = omega arith;
           two = omega arith;
           room = let z = f .room in omega arith;

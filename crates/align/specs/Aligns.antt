@@ -9,6 +9,7 @@ use Rattle.rules.specs.Limits.{maxSide, maxHalvings}
 use Rattle.rules.specs.Frames.{frameOf}
 use Rattle.rules.specs.Levels.{Aligned, alignedBy}
 use Rattle.rules.specs.Refusals.{greyNeeded}
+use Rattle.rules.specs.Accepted.{PercentileOk}
 use Rattle.rules.specs.Buffers.{RowAt}
 
 -- the frames at `first` and `second`, within the first 2·w·h bytes of the memory, which suffices for the halvings
@@ -18,8 +19,7 @@ pub record Frames (first second : ℕ) (S : Setup) (memory : ℕ) : Type 0 where
   pub high : 2 ^ (S .s + 2) ≤ S .h
   pub height : S .h ≤ maxSide
   pub halvings : S .s ≤ maxHalvings
-  pub least : 1 ≤ S .percentile
-  pub most : S .percentile ≤ 99
+  pub percentiles : PercentileOk (S .exclusion) (S .percentile)
   pub one : first + S .w * S .h ≤ 2 * (S .w * S .h)
   pub two : second + S .w * S .h ≤ 2 * (S .w * S .h)
   pub room : greyNeeded (S .s) (S .w) (S .h) ≤ memory

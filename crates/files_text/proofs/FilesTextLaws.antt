@@ -9,9 +9,10 @@ use lib.Dec.{eqb}
 use lib.ListN.{length, drop}
 use Rattle.rules.specs.declared.Offset.{Offset}
 use Rattle.rules.specs.declared.Paired.{Paired}
+use Rattle.rules.specs.declared.Exclusion.{Exclusion}
 use Rattle.rules.specs.Answers.{paired, bufferAfter}
 use Rattle.rules.specs.Levels.{byTolerance, Aligned}
-use Rattle.rules.specs.Refusals.{_orElse_, toleranceRefusal}
+use Rattle.rules.specs.Refusals.{_orElse_}
 use Rattle.rules.specs.Calls.{pairResult}
 use Rattle.rules.specs.Accepted.{PairOk}
 use Rattle.rules.proofs.AlignmentLaws.{pair-ok}
@@ -74,7 +75,7 @@ module _ (size : Size) (s tolerance percentile : ℕ) (first second : List ℕ) 
     accepted = pair-moved number (result .offset) m e
 
     pub halvings : s ≤ 8
-    halvings = pair-ok (size .w) (size .h) s (toleranceRefusal tolerance) percentile (length first) (length second) countsLent countsLent greyLent wordsLent (accepted .0) .shape .halvings
+    halvings = pair-ok (size .w) (size .h) s (Exclusion.Tolerance tolerance) percentile (length first) (length second) countsLent countsLent greyLent wordsLent (accepted .0) .shape .halvings
 
     pub pair-moved-text : (before after : List ℕ) → after ≡ bufferAfter number (result .counts) before
         → pairText size s tolerance percentile first second ≡ offsetText (m .dx) (m .dy) ++ levelsText s after
@@ -112,8 +113,8 @@ module _ (s tolerance percentile : ℕ) (first second : List ℕ) where
       unfolding rasterOfSize
       kept z = tested (eqb (one .w) (two .w) && eqb (one .h) (two .h)) (k .exact2)
         where
-          k : PairOk (one .w) (one .h) s percentile (length (rasterOf first)) (length (rasterOfSize one two second)) countsLent countsLent greyLent wordsLent
-          k = pair-ok (one .w) (one .h) s (toleranceRefusal tolerance) percentile (length (rasterOf first)) (length (rasterOfSize one two second)) countsLent countsLent greyLent wordsLent z
+          k : PairOk (one .w) (one .h) s (Exclusion.Tolerance tolerance) percentile (length (rasterOf first)) (length (rasterOfSize one two second)) countsLent countsLent greyLent wordsLent
+          k = pair-ok (one .w) (one .h) s (Exclusion.Tolerance tolerance) percentile (length (rasterOf first)) (length (rasterOfSize one two second)) countsLent countsLent greyLent wordsLent z
 
           tested : (t : Bool) → length (cond t (rasterOf second) []) ≡ 3 * (one .w * one .h) → rasterOf second ≡ cond t (rasterOf second) []
           tested true d = refl

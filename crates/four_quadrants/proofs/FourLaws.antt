@@ -7,6 +7,7 @@ use lib.IntN.{ℤ}
 use lib.ListN.{length}
 use lib.Pow.{pow-mono}
 use Rattle.rules.specs.declared.Offset.{Offset}
+use Rattle.rules.specs.declared.Exclusion.{Exclusion}
 use Rattle.rules.specs.declared.Setup.{Setup}
 use Rattle.rules.specs.Limits.{maxOffset}
 use Rattle.rules.specs.Frames.{writtenOver}
@@ -23,9 +24,9 @@ use Rattle.quadrant.specs.QuadrantPairs.{quadrantSetup, quadrantRaster, quadran
 use Rattle.four_quadrants.specs.FourOffsets.{fourOffsets, coordinates, quadrantAt}
 
 -- the memory of one quadrant serves the next
-pub same-memory : (w h s percentile first second grey grey′ words words′ : ℕ) → grey′ ≡ grey → words′ ≡ words
-    → QuadrantsOk w h s percentile first second grey words → QuadrantsOk w h s percentile first second grey′ words′
-same-memory w h s percentile first second grey grey′ words words′ e f k = rw (e, f) k
+pub same-memory : (w h s : ℕ) (exclusion : Exclusion) (percentile first second grey grey′ words words′ : ℕ) → grey′ ≡ grey → words′ ≡ words
+    → QuadrantsOk w h s exclusion percentile first second grey words → QuadrantsOk w h s exclusion percentile first second grey′ words′
+same-memory w h s exclusion percentile first second grey grey′ words words′ e f k = rw (e, f) k
 
 -- a quadrant's offset is at most as large as a pair's can be
 pub quadrant-near : (places : List ℕ) (S : Setup) (first second : List ℕ) (q : Quadrant) (m : Offset) → S .s ≤ 8

@@ -75,7 +75,7 @@ fn align_each(
     order: &[usize; 9],
 )
     requires accepted { ⌜
-        QuadrantsOk (setup .w) (setup .h) (setup .s) (setup .percentile)
+        QuadrantsOk (setup .w) (setup .h) (setup .s) (setup .exclusion) (setup .percentile)
         (length (now first)) (length (now second)) (length (now grey)) (length (now words))
         ⌝ }
     requires room { ⌜ numbersNeeded ≤ length (now offsets) ⌝ }
@@ -105,7 +105,7 @@ pub fn align_quadrants(
     order: &[usize; 9],
 ) -> bool
     requires accepted { ⌜
-        QuadrantsOk (setup .w) (setup .h) (setup .s) (setup .percentile)
+        QuadrantsOk (setup .w) (setup .h) (setup .s) (setup .exclusion) (setup .percentile)
         (length (now first)) (length (now second)) (length (now grey)) (length (now words))
         ⌝ }
     requires room { ⌜ numbersNeeded ≤ length (now offsets) ⌝ }

@@ -11,6 +11,7 @@ ghost use Prim.Native.Nat.{_+_, _*_, _≤_};
 ghost use lib.ListN.{length, drop};
 ghost use Rattle.rules.specs.Limits.{maxCentre};
 ghost use Rattle.rules.specs.Frames.{frameOf};
+ghost use Rattle.rules.specs.Accepted.{PercentileOk};
 ghost use Rattle.rules.specs.Bitmaps.{rowWords};
 ghost use Rattle.rules.specs.Levels.{Arrangement, arranged, Near};
 ghost use Rattle.popcount.specs.Table.{CountsBits};
@@ -34,7 +35,7 @@ pub fn align_level(
     table: &[u8; 256],
 ) -> Offset
     requires sides { ⌜ Sides (setup .w) (setup .h) ⌝ }
-    requires percent { ⌜ (1 ≤ setup .percentile) × (setup .percentile ≤ 99) ⌝ }
+    requires percent { ⌜ PercentileOk (setup .exclusion) (setup .percentile) ⌝ }
     requires frames { ⌜ (first + setup .w * setup .h ≤ length (now grey)) × (second + setup .w * setup .h ≤ length (now grey)) ⌝ }
     requires room { ⌜ 6 * (rowWords (setup .w) * setup .h) ≤ length (now words) ⌝ }
     requires near { ⌜ Near maxCentre centre ⌝ }

@@ -1,5 +1,5 @@
 -- Laws of the bitmaps that stand in lent words.
-use mathlib.Core.Path.{_≡_, refl, sym, ap, ap₂, _∙_}
+use mathlib.Core.Path.{_≡_, refl, sym, ap, ap₂, subst, _∙_}
 use mathlib.Core.Bool.{Bool, _&&_}
 use mathlib.Core.Logic.{⊎-elim}
 use mathlib.Core.List.{List}
@@ -16,6 +16,7 @@ use Rattle.rules.specs.Thresholds.{threshold}
 use Rattle.rules.specs.Planes.{thresholdBit, bitsBy}
 use Rattle.rules.specs.Bitmaps.{rowWords, bit, bitAt, word, wordOf}
 use Rattle.rules.specs.Differences.{Planes, SamePlanes}
+use Rattle.rules.specs.declared.Exclusion.{Exclusion}
 use Rattle.rules.specs.declared.Setup.{Setup}
 use Rattle.rules.specs.Levels.{ruleOf, planesBy}
 use Rattle.rules.proofs.SumLaws.{order, gate-small}
@@ -32,7 +33,7 @@ use Rattle.level_planes.specs.LevelPlanes.{planesAt, BothAt, PackedAt}
 use Rattle.level_planes.specs.Excluded.{Excludes}
 use Rattle.rules.proofs.PairLaws.{threshold-ext}
 
--- The part of a list that holds a frame, whatever stands after it: its length, and its threshold.
+-- The part of a list that holds a frame, whatever stands after it: its length, its thresholds, and what they leave out.
 module _ (w h from : ℕ) (grey : List ℕ) (room : from + w * h ≤ length grey) where
   pub part-length : length (take (from + w * h - from) (drop from grey)) ≡ w * h
   part-length = length-take (from + w * h - from) (drop from grey) ∙ (let a = length-drop from grey in omega arith)
@@ -45,6 +46,10 @@ module _ (w h from : ℕ) (grey : List ℕ) (room : from + w * h ≤ length grey
       ∙ threshold-ext w h (frameOf w part) (frameOf w (drop from grey))
       (λ x y k l. getD-take (from + w * h - from) (drop from grey) (y * w + x) 0 (let a = pixel-fits w h x y k l in omega arith))
       percentile
+
+  pub part-excludes : (exclusion : Exclusion) (percentile lo hi : ℕ) → Excludes exclusion (λ p. thresholdIn p (take (from + w * h - from) (drop from grey))) percentile lo hi
+      → Excludes exclusion (λ p. threshold w h p (frameOf w (drop from grey))) percentile lo hi
+  part-excludes exclusion percentile lo hi x = subst (λ (t : ℕ → ℕ). Excludes exclusion t percentile lo hi) (λ i p. part-threshold p i) x
 
 -- the places of earlier rows lie before row y, and those of row y before its end
 row-before : (n y x z : ℕ) → x < n → z < y → z * n + x < y * n
@@ -143,7 +148,7 @@ outside-small lo hi w grey x y = outside-lt lo hi (frameOf w grey x y)
 pub packed-at : (S : Setup) (from : ℕ) (grey : List ℕ) (to : ℕ) (before after : List ℕ) (t lo hi : ℕ)
     → ((i : ℕ) → getD grey i 0 < 256)
     → t ≡ threshold (S .w) (S .h) (S .percentile) (frameOf (S .w) (drop from grey))
-    → Excludes (S .exclusion) t lo hi
+    → Excludes (S .exclusion) (λ p. threshold (S .w) (S .h) p (frameOf (S .w) (drop from grey))) (S .percentile) lo hi
     → BothAt to (to + rowWords (S .w) * S .h) (rowWords (S .w))
     (wordOf (S .w) (outsidePlane 0 t (S .w) (drop from grey))) (wordOf (S .w) (outsidePlane lo hi (S .w) (drop from grey))) before (S .h) after
     → PackedAt S (drop from grey) to before after
@@ -170,7 +175,7 @@ packed-at S from grey to before after t lo hi bytes t-is excludes b = record {
 
     exclusions : (x y : ℕ) → outsidePlane lo hi (S .w) l₀ x y ≡ ruleOf (S .exclusion) (λ p. threshold (S .w) (S .h) p f) (S .percentile) (f x y)
     exclusions x y =
-        sym (excludes .outside (λ p. threshold (S .w) (S .h) p f) (S .percentile) (f x y) (sym t-is)
+        sym (excludes .outside (f x y)
         (let byte = bytes (from + (y * S .w + x)) in let e = getD-drop from grey (y * S .w + x) 0 in omega arith))
 
 -- A bitmap is read only at its own words.

@@ -6,8 +6,7 @@ use Rattle.rules.specs.Limits.{maxGrey}
 use Rattle.rules.specs.Levels.{ruleOf}
 use Rattle.flags.specs.Flags.{outsideBit}
 
--- at a level with threshold t the rule's bit of a grey value is 1 where it lies outside lo..hi
-pub record Excludes (exclusion : Exclusion) (t lo hi : ℕ) : Type 0 where
+-- at a level with these thresholds the rule's bit of a grey value is 1 where it lies outside lo..hi
+pub record Excludes (exclusion : Exclusion) (thresholds : ℕ → ℕ) (percentile lo hi : ℕ) : Type 0 where
   pub ordered : lo ≤ hi
-  pub outside : (thresholds : ℕ → ℕ) (percentile v : ℕ) → thresholds percentile ≡ t → v ≤ maxGrey
-      → ruleOf exclusion thresholds percentile v ≡ outsideBit lo hi v
+  pub outside : (v : ℕ) → v ≤ maxGrey → ruleOf exclusion thresholds percentile v ≡ outsideBit lo hi v

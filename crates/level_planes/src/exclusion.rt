@@ -1,34 +1,35 @@
 // The grey values that a level leaves out. This is the one place that knows the rules of exclusion.
 
-use pack::interval::high_end;
-use pack::interval::low_end;
+use intervals::Interval;
+use intervals::around;
+use intervals::between;
 use rules::Exclusion;
 ghost use mathlib.Core.Path.{_≡_};
-ghost use Rattle.rules.specs.Levels.{toleranceIn};
+ghost use mathlib.Core.List.{List};
+ghost use Prim.Native.Nat.{ℕ, _≤_};
+ghost use Rattle.rules.specs.Accepted.{PercentileOk};
+ghost use Rattle.histogram.specs.Counts.{maxPixels, total, CountsOf};
+ghost use Rattle.threshold.specs.Flat.{thresholdIn};
 ghost use Rattle.level_planes.specs.Excluded.{Excludes};
 
-// Grey values from lo to hi, both included.
-pub struct Interval {
-    pub lo: u8,
-    pub hi: u8,
-}
-
-// The tolerance of the one rule there is.
-fn tolerance_of(exclusion: Exclusion) -> u32
-    ensures { λ r. ⌜ r ≡ toleranceIn exclusion ⌝ }
+// What a level leaves out that has these counts of its grey values, and this threshold for the pair's
+// percentile.
+pub fn excluded(
+    counts: &[u32; 256],
+    pixels: usize,
+    percentile: u32,
+    threshold: u8,
+    exclusion: Exclusion,
+) -> Interval
+    requires counted { ⌜ (total (now counts) ≡ pixels) × (pixels ≤ maxPixels) ⌝ }
+    requires percentiles { ⌜ PercentileOk exclusion percentile ⌝ }
+    ensures { λ r. ⌜
+        ((l : List ℕ) → CountsOf l (now (counts .entry)) → threshold ≡ thresholdIn percentile l
+        → Excludes exclusion (λ p. thresholdIn p l) percentile (r .lo) (r .hi))
+        ⌝ }
 {
     match exclusion {
-        Exclusion::Tolerance(tolerance) => tolerance,
-    }
-}
-
-// What a level with this threshold leaves out.
-pub fn excluded(threshold: u8, exclusion: Exclusion) -> Interval
-    ensures { λ r. ⌜ Excludes exclusion threshold (r .lo) (r .hi) ⌝ }
-{
-    let tolerance = tolerance_of(exclusion);
-    Interval {
-        lo: low_end(threshold, tolerance),
-        hi: high_end(threshold, tolerance),
+        Exclusion::Tolerance(tolerance) => around(threshold, tolerance),
+        Exclusion::Band(band) => between(counts, pixels, percentile, band),
     }
 }

@@ -11,6 +11,7 @@ use words::row_words;
 ghost use mathlib.Core.Path.{_≡_};
 ghost use Prim.Native.Nat.{_+_, _*_, _≤_};
 ghost use lib.ListN.{length, drop};
+ghost use Rattle.rules.specs.Accepted.{PercentileOk};
 ghost use Rattle.rules.specs.Bitmaps.{rowWords, wordOf};
 ghost use Rattle.pack.specs.Outside.{outsidePlane};
 ghost use Rattle.level_planes.specs.FrameSides.{Sides};
@@ -58,10 +59,11 @@ fn pack_within(
     }
 }
 
-// The bitmaps of the frame at place `from`, as the setup says, from place `to` on.
+// The bitmaps of the frame at place `from`, as the setup says, from place `to` on. Its grey values are
+// counted once for all its thresholds.
 pub fn bitmaps_within(grey: &[u8], from: usize, setup: Setup, words: &mut [u64], to: usize)
     requires sides { ⌜ Sides (setup .w) (setup .h) ⌝ }
-    requires percent { ⌜ (1 ≤ setup .percentile) × (setup .percentile ≤ 99) ⌝ }
+    requires percent { ⌜ PercentileOk (setup .exclusion) (setup .percentile) ⌝ }
     requires frame { ⌜ from + setup .w * setup .h ≤ length (now grey) ⌝ }
     requires room { ⌜ to + 2 * (rowWords (setup .w) * setup .h) ≤ length (now words) ⌝ }
     ensures { λ _. ⌜ PackedAt setup (drop from (now (grey .entry))) to (now (words .entry)) (now (words .exit)) ⌝ }
@@ -75,7 +77,8 @@ pub fn bitmaps_within(grey: &[u8], from: usize, setup: Setup, words: &mut [u64],
     } = setup;
     let end = from + w * h;
     let counts = histogram(&grey[from..end]);
-    let threshold = threshold_of(&counts, w * h, percentile);
-    let out = excluded(threshold, exclusion);
+    let pixels = w * h;
+    let threshold = threshold_of(&counts, pixels, percentile);
+    let out = excluded(&counts, pixels, percentile, threshold, exclusion);
     pack_within(grey, from, w, h, threshold, out.lo, out.hi, words, to);
 }

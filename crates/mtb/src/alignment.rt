@@ -4,7 +4,7 @@
 ghost use mathlib.Core.Path.{_≡_};
 ghost use Rattle.rules.specs.Answers.{written, paired};
 ghost use Rattle.rules.specs.Levels.{wardOrder, leastMoveOrder};
-ghost use Rattle.rules.specs.Calls.{toleranceSetup, PairCall, toleranceSettings, SeriesCall};
+ghost use Rattle.rules.specs.Calls.{toleranceSetup, bandSetup, PairCall, toleranceSettings, bandSettings, SeriesCall};
 ghost use Rattle.rules.specs.Refusals.{shapeRefusal, greyNeeded, wordsNeeded};
 ghost use Rattle.rotation.specs.Turns.{rotation};
 ghost use Rattle.quadrants.specs.QuadrantsCalls.{QuadrantsCall};
@@ -14,9 +14,11 @@ use c_answers::refusal_in;
 use c_answers::turned_into;
 use pair::pair;
 use pair::pair_ward;
+use pair_band::pair_band;
 use quadrants::quadrants;
 use series::series;
 use series::series_ward;
+use series_band::series_band;
 use work_memory::grey_memory;
 use work_memory::shape_refusal;
 use work_memory::word_memory;
@@ -167,6 +169,85 @@ pub extern "C" fn mtb_series_ward(
         h as usize,
         s,
         tolerance,
+        n as usize,
+        r as usize,
+        percentiles,
+        rasters,
+        offsets,
+        counts,
+        compared,
+        grey,
+        words,
+    ))
+}
+
+#[no_mangle]
+pub extern "C" fn mtb_pair_band(
+    w: u32,
+    h: u32,
+    s: u32,
+    band: u32,
+    percentile: u32,
+    first: &[u8],
+    second: &[u8],
+    dx: &mut i32,
+    dy: &mut i32,
+    counts: &mut [u32],
+    compared: &mut [u32],
+    grey: &mut [u8],
+    words: &mut [u64],
+) -> u32
+    ensures call { λ n. ⌜
+        PairCall leastMoveOrder (bandSetup w h s band percentile) (now (first .entry)) (now (second .entry))
+        (now (counts .entry)) (now (counts .exit)) (now (compared .entry)) (now (compared .exit))
+        (now (grey .entry)) (now (grey .exit)) (now (words .entry)) (now (words .exit))
+        (paired n (offset (now (dx .exit)) (now (dy .exit))))
+        ⌝ }
+    ensures refused { λ n. ⌜ ((n ≡ 0 → ⊥) → (now (dx .exit) ≡ now (dx .entry)) × (now (dy .exit) ≡ now (dy .entry))) ⌝ }
+{
+    let answer = pair_band(
+        w as usize,
+        h as usize,
+        s,
+        band,
+        percentile,
+        first,
+        second,
+        counts,
+        compared,
+        grey,
+        words,
+    );
+    moved_into(answer, dx, dy)
+}
+
+#[no_mangle]
+pub extern "C" fn mtb_series_band(
+    w: u32,
+    h: u32,
+    s: u32,
+    band: u32,
+    n: u32,
+    r: u32,
+    percentiles: &[u32],
+    rasters: &[u8],
+    offsets: &mut [i32],
+    counts: &mut [u32],
+    compared: &mut [u32],
+    grey: &mut [u8],
+    words: &mut [u64],
+) -> u32
+    ensures { λ k. ⌜
+        SeriesCall leastMoveOrder (bandSettings w h s band n r (now (percentiles .entry))) (now (rasters .entry))
+        (now (offsets .entry)) (now (offsets .exit)) (now (counts .entry)) (now (counts .exit)) (now (compared .entry)) (now (compared .exit))
+        (now (grey .entry)) (now (grey .exit)) (now (words .entry)) (now (words .exit)) (written k)
+        ⌝ }
+{
+    refusal_in(series_band(
+        w as usize,
+        h as usize,
+        s,
+        band,
         n as usize,
         r as usize,
         percentiles,

@@ -102,11 +102,9 @@ pair-places each n k room l r =
 pub room-at : (S : Setup) (n : ℕ) (ps : List ℕ) (rasters pairs counts compared grey words k : ℕ)
     → PairsOk S n ps rasters pairs counts compared grey words → k + 1 < n → Room (setupAt S ps k) k rasters pairs counts compared grey words
 room-at S n ps rasters pairs counts compared grey words k o l =
-    let p = o .percentile k (omega arith) in
     record {
       shape = o .shape;
-      least = p .0;
-      most = p .1;
+      percentiles = o .percentile k (omega arith);
       frames = let f = o .frames in omega arith;
       raster =
           let a = mul-le-mul-right {m = suc (k + 1)} {n = n} (3 * (S .w * S .h)) l in
@@ -138,8 +136,7 @@ frames-at S k rasters pairs counts compared grey words i j first second o a b = 
   high = o .shape .high;
   height = o .shape .size .height;
   halvings = o .shape .halvings;
-  least = o .least;
-  most = o .most;
+  percentiles = o .percentiles;
   one = let p = place-fits i (S .w * S .h) in omega arith;
   two = let p = place-fits j (S .w * S .h) in omega arith;
   room = o .greys;

@@ -16,7 +16,7 @@ use Rattle.rules.specs.Buffers.{RowAt}
 use Rattle.rules.specs.Levels.{Aligned, alignedBy}
 use Rattle.rules.specs.Refusals.{greyNeeded}
 use Rattle.rules.specs.Series.{offsetList, joined}
-use Rattle.rules.specs.Accepted.{ShapeOk}
+use Rattle.rules.specs.Accepted.{ShapeOk, PercentileOk}
 use Rattle.offsets.specs.PairOffsets.{withOffset}
 
 -- Frame k's place in the lent grey memory: neighbours stand in the two halves of its first 2·w·h bytes.
@@ -46,8 +46,7 @@ pairsOf preferred S percentiles rasters k = pairAt preferred (setupAt S percenti
 -- what pair k needs of the lengths
 pub record Room (S : Setup) (k rasters pairs counts compared grey words : ℕ) : Type 0 where
   pub shape : ShapeOk (S .w) (S .h) (S .s)
-  pub least : 1 ≤ S .percentile
-  pub most : S .percentile ≤ 99
+  pub percentiles : PercentileOk (S .exclusion) (S .percentile)
   pub frames : k < maxFrames
   pub raster : (k + 1) * (3 * (S .w * S .h)) + 3 * (S .w * S .h) ≤ rasters
   pub offset : 2 * k + 2 ≤ pairs
@@ -60,7 +59,7 @@ pub record Room (S : Setup) (k rasters pairs counts compared grey words : ℕ) :
 pub record PairsOk (S : Setup) (n : ℕ) (percentiles : List ℕ) (rasters pairs counts compared grey words : ℕ) : Type 0 where
   pub shape : ShapeOk (S .w) (S .h) (S .s)
   pub frames : (0 < n) × (n ≤ maxFrames)
-  pub percentile : (k : ℕ) → k < n - 1 → (1 ≤ getD percentiles k 0) × (getD percentiles k 0 ≤ 99)
+  pub percentile : (k : ℕ) → k < n - 1 → PercentileOk (S .exclusion) (getD percentiles k 0)
   pub many : length percentiles ≡ n - 1
   pub exact : rasters ≡ n * (3 * (S .w * S .h))
   pub room1 : 2 * (n - 1) ≤ pairs

@@ -55,7 +55,7 @@ module _ (preferred : List Offset) (S : Setup) (first second grey grey′ counts
       room (aligns .comparedWritten)
 
 -- an accepted call gives the recursion what it needs
-pub pair-frames : (S : Setup) (first second counts compared grey words : ℕ) → PairOk (S .w) (S .h) (S .s) (S .percentile) first second counts compared grey words
+pub pair-frames : (S : Setup) (first second counts compared grey words : ℕ) → PairOk (S .w) (S .h) (S .s) (S .exclusion) (S .percentile) first second counts compared grey words
     → Frames 0 (S .w * S .h) S grey
 pair-frames S first second counts compared grey words k = record {
   wide = k .shape .wide;
@@ -63,8 +63,7 @@ pair-frames S first second counts compared grey words k = record {
   high = k .shape .high;
   height = k .shape .size .height;
   halvings = k .shape .halvings;
-  least = k .least;
-  most = k .most;
+  percentiles = k .percentiles;
   one = omega arith;
   two = omega arith;
   room = k .greys;

@@ -25,7 +25,7 @@ pub fn align_rasters(
     order: &[usize; 9],
 ) -> Offset
     requires accepted { ⌜
-        PairOk (setup .w) (setup .h) (setup .s) (setup .percentile)
+        PairOk (setup .w) (setup .h) (setup .s) (setup .exclusion) (setup .percentile)
         (length (now first)) (length (now second)) (length (now counts)) (length (now compared)) (length (now grey)) (length (now words))
         ⌝ }
     requires order { ⌜ Arrangement (now order) ⌝ }

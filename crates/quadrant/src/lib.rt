@@ -28,7 +28,7 @@ pub fn align_quadrant(
     order: &[usize; 9],
 ) -> Offset
     requires accepted { ⌜
-        QuadrantsOk (setup .w) (setup .h) (setup .s) (setup .percentile)
+        QuadrantsOk (setup .w) (setup .h) (setup .s) (setup .exclusion) (setup .percentile)
         (length (now first)) (length (now second)) (length (now grey)) (length (now words))
         ⌝ }
     requires order { ⌜ Arrangement (now order) ⌝ }

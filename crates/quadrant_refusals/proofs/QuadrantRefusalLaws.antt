@@ -9,6 +9,8 @@ use lib.Pow.{pow-pos}
 use borrow.Author.Tests.{ltb-false, le-ltb, eq-eqb, ne-eqb}
 use Rattle.rules.specs.Refusals.{_when_, _orElse_, badSide, badSize, badHalvings, tooSmall, badPercentile, wrongLength, short, rasterLength, countsLength, greyNeeded, wordsNeeded, pairRefusal}
 use Rattle.rules.specs.Accepted.{SizeOk}
+use Rattle.rules.specs.declared.Exclusion.{Exclusion}
+use Rattle.rules.specs.Calls.{exclusionRefusal}
 use Rattle.rules.proofs.RefusalLaws.{when-no, orElse-no, or-no, size-ok, length-is}
 use Rattle.rules.proofs.AlignmentLaws.{pair-ok}
 use Rattle.quadrant_refusals.specs.QuadrantRefusals.{numbersNeeded, quadrantsRefusal, QuadrantsOk}
@@ -100,16 +102,17 @@ pair-accepted w h s excluded percentile first second offsets grey words counts c
       le-ltb bitmaps (wordsNeeded (w / 2) (h / 2)) room4,
     )
 
-pub quadrants-ok : (w h s excluded percentile first second offsets grey words : ℕ)
-    → quadrantsRefusal w h s excluded percentile first second offsets grey words ≡ 0
-    → QuadrantsOk w h s percentile first second grey words
-quadrants-ok w h s excluded percentile first second offsets grey words e =
+pub quadrants-ok : (w h s : ℕ) (exclusion : Exclusion) (percentile first second offsets grey words : ℕ)
+    → quadrantsRefusal w h s (exclusionRefusal exclusion) percentile first second offsets grey words ≡ 0
+    → QuadrantsOk w h s exclusion percentile first second grey words
+quadrants-ok w h s exclusion percentile first second offsets grey words e =
+    let excluded : ℕ = exclusionRefusal exclusion in
     let k = unrefused w h s excluded percentile first second offsets grey words e in
     let raster : ℕ = rasterLength (w / 2) (h / 2) in
     record {
       size = k .size;
       exact1 = k .exact1;
       exact2 = k .exact2;
-      quadrant = pair-ok (w / 2) (h / 2) s excluded percentile raster raster (countsLength s) (countsLength s) grey words
+      quadrant = pair-ok (w / 2) (h / 2) s exclusion percentile raster raster (countsLength s) (countsLength s) grey words
           (pair-accepted w h s excluded percentile first second offsets grey words (countsLength s) (countsLength s) grey words e (le-refl (countsLength s)) (le-refl (countsLength s)) (k .greys) (k .bitmaps));
     }

@@ -2,6 +2,7 @@
 use mathlib.Core.Path.{_≡_}
 use mathlib.Core.Bool.{_||_}
 use Prim.Native.Nat.{ℕ, _*_, _/_}
+use Rattle.rules.specs.declared.Exclusion.{Exclusion}
 use Rattle.rules.specs.Refusals.{_when_, _orElse_, badSize, badHalvings, tooSmall, badPercentile, wrongLength, short, rasterLength, countsLength, shortMemory}
 use Rattle.rules.specs.Accepted.{SizeOk, PairOk}
 
@@ -22,8 +23,8 @@ quadrantsRefusal w h s excluded percentile first second offsets grey words =
     orElse 11 when shortMemory s (w / 2) (h / 2) grey words
 
 -- what an accepted call knows: the frame's size and rasters, and that the memory suffices for a pair of a quadrant's size
-pub record QuadrantsOk (w h s percentile first second grey words : ℕ) : Type 0 where
+pub record QuadrantsOk (w h s : ℕ) (exclusion : Exclusion) (percentile first second grey words : ℕ) : Type 0 where
   pub size : SizeOk w h
   pub exact1 : first ≡ 3 * (w * h)
   pub exact2 : second ≡ 3 * (w * h)
-  pub quadrant : PairOk (w / 2) (h / 2) s percentile (rasterLength (w / 2) (h / 2)) (rasterLength (w / 2) (h / 2)) (countsLength s) (countsLength s) grey words
+  pub quadrant : PairOk (w / 2) (h / 2) s exclusion percentile (rasterLength (w / 2) (h / 2)) (rasterLength (w / 2) (h / 2)) (countsLength s) (countsLength s) grey words

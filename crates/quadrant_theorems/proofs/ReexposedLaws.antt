@@ -8,11 +8,11 @@ use lib.ListN.{length}
 use Rattle.rules.specs.declared.Offset.{Offset}
 use Rattle.rules.specs.declared.Setup.{Setup}
 use Rattle.rules.specs.Greys.{greyFrame}
-use Rattle.rules.specs.Levels.{leastMoveOrder, ruleOf, Aligned}
-use Rattle.rules.specs.Calls.{toleranceSetup, exclusionRefusal, pairResult}
+use Rattle.rules.specs.Levels.{leastMoveOrder, ruleOf, toleranceIn, Aligned}
+use Rattle.rules.specs.Calls.{toleranceSetup, pairResult}
 use Rattle.rules.proofs.RefusalLaws.{buffer-part}
-use Rattle.reexposure.specs.Reexposure.{SameOrder, Bytes, ByOrder, GreyBytes}
-use Rattle.reexposure.proofs.Links.{zero-by-order}
+use Rattle.reexposure.specs.Reexposure.{SameOrder, Bytes, GreyBytes}
+use Rattle.reexposure.proofs.OrderLaws.{setting-by-order}
 use Rattle.reexposure.proofs.Theorem.{same-pair, grey-byte}
 use Rattle.crop.specs.declared.Quadrant.{Quadrant}
 use Rattle.crop.specs.Crops.{part}
@@ -46,14 +46,15 @@ order-kept S q raster raster′ alike x y u v kx ky ku kv =
     ∙ alike (C .left + x) (C .top + y) (C .left + u) (C .top + v) (omega arith) (omega arith) (omega arith) (omega arith)
     ∙ sym (ap₂ compare (quadrant-grey S q raster′ x y kx ky) (quadrant-grey S q raster′ u v ku kv))
 
-module _ (order : List Offset) (S : Setup) (fair : ByOrder (ruleOf (S .exclusion))) (first first′ second second′ : List ℕ) (offsets : List ℤ) (grey words : List ℕ)
+module _ (order : List Offset) (S : Setup) (fair : toleranceIn (S .exclusion) ≡ 0) (first first′ second second′ : List ℕ) (offsets : List ℤ) (grey words : List ℕ)
     (one : ReexposedRaster S first first′) (two : ReexposedRaster S second second′) (accepted : quadrantsNumber S first second offsets grey words ≡ 0) where
   same-offset : (q : Quadrant) → quadrantOffset order S first′ second′ q ≡ quadrantOffset order S first second q
   unfolding quadrantOffset pairResult
   same-offset q =
-      let ok = quadrants-ok (S .w) (S .h) (S .s) (exclusionRefusal (S .exclusion)) (S .percentile) (length first) (length second) (length offsets) (length grey) (length words) accepted .quadrant in
+      let ok = quadrants-ok (S .w) (S .h) (S .s) (S .exclusion) (S .percentile) (length first) (length second) (length offsets) (length grey) (length words) accepted .quadrant .percentiles in
       sym (ap (λ (a : Aligned). a .offset)
-      (same-pair order (ruleOf (S .exclusion)) fair (S .percentile) (S .s) (S .w / 2) (S .h / 2) (ok .least) (ok .most)
+      (same-pair order (ruleOf (S .exclusion)) (S .percentile) (S .s) (S .w / 2) (S .h / 2) (setting-by-order (S .exclusion) (S .percentile) fair ok)
+      (let l = ok .least in omega arith) (let l = ok .most in omega arith)
       (greyIn S q first) (greyIn S q first′) (greyIn S q second) (greyIn S q second′)
       (grey-bytes S q first (one .bytes)) (grey-bytes S q first′ (one .bytes′)) (grey-bytes S q second (two .bytes)) (grey-bytes S q second′ (two .bytes′))
       (order-kept S q first first′ (one .alike)) (order-kept S q second second′ (two .alike))))
@@ -81,4 +82,4 @@ quadrants-alike order S fair first first′ second second′ offsets out offsets
 
 -- tolerance 0 sees grey values by their order alone
 pub alike-at-zero : AlikeAtZero
-alike-at-zero w h s percentile = quadrants-alike leastMoveOrder (toleranceSetup w h s 0 percentile) zero-by-order
+alike-at-zero w h s percentile = quadrants-alike leastMoveOrder (toleranceSetup w h s 0 percentile) refl

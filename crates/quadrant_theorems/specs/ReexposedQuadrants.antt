@@ -7,9 +7,9 @@ use lib.ListN.{length, take}
 use Rattle.rules.specs.declared.Offset.{Offset}
 use Rattle.rules.specs.declared.Setup.{Setup}
 use Rattle.rules.specs.Greys.{greyFrame}
-use Rattle.rules.specs.Levels.{leastMoveOrder, ruleOf}
+use Rattle.rules.specs.Levels.{leastMoveOrder, toleranceIn}
 use Rattle.rules.specs.Calls.{toleranceSetup}
-use Rattle.reexposure.specs.Reexposure.{SameOrder, Bytes, ByOrder}
+use Rattle.reexposure.specs.Reexposure.{SameOrder, Bytes}
 use Rattle.rotation.specs.declared.Rotation.{Rotation}
 use Rattle.quadrant_refusals.specs.QuadrantRefusals.{numbersNeeded}
 use Rattle.quadrants.specs.QuadrantsCalls.{quadrantsNumber, QuadrantsCall}
@@ -37,9 +37,9 @@ ReexposedAlike order S =
     → QuadrantsCall order S first′ second′ offsets′ out′ grey′ greyAfter′ words′ wordsAfter′ r′
     → AlikeQuadrants (quadrantsNumber S first′ second′ offsets′ grey′ words′) out out′ r r′
 
--- In every order of the nine, and for every exclusion rule that sees grey values by their order alone (proved in proofs/ReexposedLaws.antt as `quadrants-alike`).
+-- In every order of the nine, for every setting that is no tolerance above 0 (proved in proofs/ReexposedLaws.antt as `quadrants-alike`).
 abbrev pub QuadrantsAlike : Type 0
-QuadrantsAlike = (order : List Offset) (S : Setup) → ByOrder (ruleOf (S .exclusion)) → ReexposedAlike order S
+QuadrantsAlike = (order : List Offset) (S : Setup) → toleranceIn (S .exclusion) ≡ 0 → ReexposedAlike order S
 
 -- Of the offered call at tolerance 0 (proved there as `alike-at-zero`).
 abbrev pub AlikeAtZero : Type 0

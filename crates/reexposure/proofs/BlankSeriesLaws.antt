@@ -14,7 +14,7 @@ use Rattle.rules.specs.Planes.{distance}
 use Rattle.rules.specs.Levels.{still, added, arranged, Arrangement, ruleOf, Aligned, pair}
 use Rattle.rules.specs.Series.{Settings, greyOf, pairOf, sumFrom, opposite, frameOffset, joined, answerOf, answerBy, seriesAnswer}
 use Rattle.rules.specs.declared.Written.{Written}
-use Rattle.rules.specs.Calls.{exclusionRefusal, seriesNumber, SeriesCall}
+use Rattle.rules.specs.Calls.{seriesNumber, SeriesCall}
 use Rattle.rules.specs.BlankSky.{Equal}
 use Rattle.rules.proofs.OffsetLaws.{abs-neg, offset-at}
 use Rattle.rules.proofs.LevelLaws.{wardPlaces, leastMovePlaces, ward-arrangement, least-move-arrangement, counts-length}
@@ -141,7 +141,7 @@ module _ (preferred : List Offset) (S : Settings) (F : List ℕ) (offsets offset
     (z : seriesNumber S F offsets counts compared grey words ≡ 0) (call : SeriesCall preferred S F offsets offsets′ counts counts′ compared compared′ grey grey′ words words′ r) where
   reference-ok : S .reference < S .frames
   reference-ok =
-      series-ok (S .w) (S .h) (S .halvings) (exclusionRefusal (S .exclusion)) (S .frames) (S .reference) (S .percentiles)
+      series-ok (S .w) (S .h) (S .halvings) (S .exclusion) (S .frames) (S .reference) (S .percentiles)
       (length F) (length offsets) (length counts) (length compared) (length grey) (length words) z .reference
 
   answer-equal : Equal (levelsOf S) counts′ → Equal (levelsOf S) (seriesAnswer preferred S F .counts)

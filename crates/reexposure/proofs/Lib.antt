@@ -1,4 +1,5 @@
 -- The proof of the re-exposure theorem, lowest first.
+pub mod OrderLaws
 pub mod Links
 pub mod SamePairs
 pub mod Theorem

@@ -9,7 +9,7 @@ use Rattle.rules.proofs.PairLaws.{Kept}
 use Rattle.reexposure.specs.Reexposure.{ByOrder}
 use Rattle.reexposure.proofs.Links.{Link, Linked, link-halve, same-planes}
 
-pub linked-kept : (exclusion : ExclusionRule) (percentile : ℕ) → ByOrder exclusion → 1 ≤ percentile → percentile ≤ 99
+pub linked-kept : (exclusion : ExclusionRule) (percentile : ℕ) → ByOrder exclusion percentile → 1 ≤ percentile → percentile ≤ 99
     → (Q : ℕ → ℕ → Type 0) → Link Q → Kept exclusion percentile (Linked Q)
 linked-kept exclusion percentile fair some most Q link = record {
   planes = λ w h f g linked. same-planes Q link exclusion percentile w h f g fair some most linked;

@@ -11,7 +11,7 @@ use Rattle.rules.specs.Planes.{distance}
 use Rattle.rules.specs.declared.Offset.{Offset}
 use Rattle.rules.specs.Levels.{arranged, ExclusionRule, pair, Near, Every}
 use Rattle.rules.specs.Series.{Settings, greyOf, pairOf, frameOffset, answerOf, answerBy}
-use Rattle.reexposure.specs.Reexposure.{SameOrder, Reexposed, Bytes, Sound, Bounded, ByOrder, GreyBytes, PairAlike, Demand3}
+use Rattle.reexposure.specs.Reexposure.{SameOrder, Reexposed, Bytes, Sound, Bounded, EachByOrder, GreyBytes, PairAlike, Demand3}
 use Rattle.reexposure.proofs.Links.{Link, Linked}
 use Rattle.reexposure.proofs.SamePairs.{linked-kept, answer-ext}
 use Rattle.rules.proofs.PairLaws.{pair-by}
@@ -39,7 +39,7 @@ seen w h f f′ x y l m = record { x = x; y = y; inside-x = l; inside-y = m; her
 
 -- one pair
 pub same-pair : PairAlike
-same-pair order rule fair p s w h some most a a′ b b′ greyA greyA′ greyB greyB′ alikeA alikeB =
+same-pair order rule p s w h fair some most a a′ b b′ greyA greyA′ greyB greyB′ alikeA alikeB =
     let kept = linked-kept rule p fair some most in
     pair-by order rule p (Linked (Seen w h a a′)) (Linked (Seen w h b b′))
     (kept (Seen w h a a′) (seen-link w h a a′ greyA greyA′ alikeA)) (kept (Seen w h b b′) (seen-link w h b b′ greyB greyB′ alikeB))
@@ -65,7 +65,7 @@ low S F bytes k = grey-byte (S .w) (drop n F) (λ i. rw (getD-drop n F i 0) (byt
 
 -- every re-exposed series has the same answer
 pub same-answer : (order : List Offset) (exclusion : ExclusionRule) (S : Settings) (F F′ : List ℕ) → Sound S
-    → ByOrder exclusion → Bytes F → Bytes F′ → Reexposed S F F′
+    → EachByOrder exclusion S → Bytes F → Bytes F′ → Reexposed S F F′
     → answerBy order exclusion S F ≡ answerBy order exclusion S F′
 unfolding answerBy pairOf
 same-answer order exclusion S F F′ sound fair bytes bytes′ alike =
@@ -76,7 +76,7 @@ same-answer order exclusion S F F′ sound fair bytes bytes′ alike =
     (λ k l.
     let p : ℕ = getD (S .percentiles) k 0 in
     let fits = sound .percentile k (omega arith) in
-    same-pair order exclusion fair p (S .halvings) (S .w) (S .h) (fits .0) (fits .1)
+    same-pair order exclusion p (S .halvings) (S .w) (S .h) (fair k (omega arith)) (fits .0) (fits .1)
     (greyOf S F k) (greyOf S F′ k) (greyOf S F (k + 1)) (greyOf S F′ (k + 1))
     (λ x y l m. low S F bytes k x y) (λ x y l m. low S F′ bytes′ k x y) (λ x y l m. low S F bytes (k + 1) x y) (λ x y l m. low S F′ bytes′ (k + 1) x y)
     (alike .alike k (omega arith)) (alike .alike (k + 1) (omega arith)))
@@ -103,7 +103,7 @@ bounded order steps exclusion S F reference = record {
 
 -- THE THEOREM (its statement is `Demand3` in specs/Reexposure.antt).
 pub demand3 : Demand3
-demand3 places arrangement rule byOrder S F F′ sound bytes bytes′ alike = record {
+demand3 places arrangement rule S F F′ sound byOrder bytes bytes′ alike = record {
   same = same-answer (arranged places) rule S F F′ sound byOrder bytes bytes′ alike;
   bound = bounded (arranged places) (near-arranged places) rule S F (sound .reference);
   bound′ = bounded (arranged places) (near-arranged places) rule S F′ (sound .reference);

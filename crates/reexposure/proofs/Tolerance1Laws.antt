@@ -91,7 +91,7 @@ differs-at-tolerance-1 = record {
 
 pub one-not-by-order : OneNotByOrder
 unfolding exclusionBit distance
-one-not-by-order b = zero-not-one (b .alike 50 (omega arith) (omega arith) (λ p. 4) (λ p. 20) 3 10 (λ p some most. refl))
+one-not-by-order percentile b = zero-not-one (b .alike (λ p. 4) (λ p. 20) 3 10 (λ p some most. refl))
   where
     zero-not-one : _≡_ {A = ℕ} 0 1 → ⊥
     zero-not-one e = omega arith

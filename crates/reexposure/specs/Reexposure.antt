@@ -8,8 +8,10 @@ use Rattle.rules.specs.Limits.{maxGrey}
 use Rattle.rules.specs.Frames.{Frame}
 use Rattle.rules.specs.Planes.{distance}
 use Rattle.rules.specs.declared.Offset.{Offset}
-use Rattle.rules.specs.Levels.{Arrangement, arranged, ExclusionRule, byTolerance, pair}
+use Rattle.rules.specs.declared.Exclusion.{Exclusion}
+use Rattle.rules.specs.Levels.{Arrangement, arranged, ExclusionRule, byTolerance, byBand, ruleOf, toleranceIn, pair}
 use Rattle.rules.specs.Series.{Settings, greyOf, Answer, answerBy}
+use Rattle.rules.specs.Accepted.{PercentileOk}
 
 -- two grey frames in which any two pixels compare alike: darker, equal or brighter
 abbrev pub SameOrder : ℕ → ℕ → Frame → Frame → Type 0
@@ -33,11 +35,14 @@ pub record Bounded (S : Settings) (answer : Answer) : Type 0 where
   pub dx : (k : ℕ) → k < S .frames → natAbs (getD (answer .offsets) (2 * k) (pos 0)) ≤ distance k (S .reference) * (2 ^ suc (S .halvings) - 1)
   pub dy : (k : ℕ) → k < S .frames → natAbs (getD (answer .offsets) (2 * k + 1) (pos 0)) ≤ distance k (S .reference) * (2 ^ suc (S .halvings) - 1)
 
--- An exclusion rule that sees grey values by their order alone: of a level's thresholds it sees whether a grey value is darker, equal or brighter.
-pub record ByOrder (rule : ExclusionRule) : Type 0 where
-  pub alike : (percentile : ℕ) → 1 ≤ percentile → percentile ≤ 99 → (t t′ : ℕ → ℕ) (v v′ : ℕ)
-      → ((p : ℕ) → 1 ≤ p → p ≤ 99 → compare (t p) v ≡ compare (t′ p) v′)
-      → rule t percentile v ≡ rule t′ percentile v′
+-- An exclusion rule that sees grey values by their order alone, at a pair's percentile: of a level's thresholds, those for percentiles from 1 to 99, it sees
+-- whether a grey value is darker, equal or brighter.
+pub record ByOrder (rule : ExclusionRule) (percentile : ℕ) : Type 0 where
+  pub alike : (t t′ : ℕ → ℕ) (v v′ : ℕ) → ((p : ℕ) → 1 ≤ p → p ≤ 99 → compare (t p) v ≡ compare (t′ p) v′) → rule t percentile v ≡ rule t′ percentile v′
+
+-- the same at the percentile of each pair
+abbrev pub EachByOrder : ExclusionRule → Settings → Type 0
+EachByOrder rule S = (k : ℕ) → k + 1 < S .frames → ByOrder rule (getD (S .percentiles) k 0)
 
 -- the grey values of a frame are bytes
 abbrev pub GreyBytes : ℕ → ℕ → Frame → Type 0
@@ -46,7 +51,7 @@ GreyBytes w h f = (x y : ℕ) → x < w → y < h → f x y ≤ maxGrey
 -- Demand 3 of one pair of grey frames, in any order of the nine: re-exposed, they have the same answer (proved in proofs/Theorem.antt as `same-pair`).
 abbrev pub PairAlike : Type 0
 PairAlike =
-    (order : List Offset) (rule : ExclusionRule) → ByOrder rule → (percentile s w h : ℕ) → 1 ≤ percentile → percentile ≤ 99
+    (order : List Offset) (rule : ExclusionRule) (percentile s w h : ℕ) → ByOrder rule percentile → 1 ≤ percentile → percentile ≤ 99
     → (a a′ b b′ : Frame) → GreyBytes w h a → GreyBytes w h a′ → GreyBytes w h b → GreyBytes w h b′ → SameOrder w h a a′ → SameOrder w h b b′
     → pair order rule percentile s w h a b ≡ pair order rule percentile s w h a′ b′
 
@@ -60,9 +65,18 @@ pub record Alike (order : List Offset) (rule : ExclusionRule) (S : Settings) (F 
 -- that sees grey values by their order alone (proved in proofs/Theorem.antt as `demand3`).
 abbrev pub Demand3 : Type 0
 Demand3 =
-    (places : List ℕ) → Arrangement places → (rule : ExclusionRule) → ByOrder rule
-    → (S : Settings) (F F′ : List ℕ) → Sound S → Bytes F → Bytes F′ → Reexposed S F F′ → Alike (arranged places) rule S F F′
+    (places : List ℕ) → Arrangement places → (rule : ExclusionRule)
+    → (S : Settings) (F F′ : List ℕ) → Sound S → EachByOrder rule S → Bytes F → Bytes F′ → Reexposed S F F′ → Alike (arranged places) rule S F F′
 
--- "tolerance 0" is one such rule (proved there as `zero-by-order`)
+-- "tolerance 0" is one such rule, at every percentile (proved in proofs/OrderLaws.antt as `zero-by-order`).
 abbrev pub ZeroByOrder : Type 0
-ZeroByOrder = ByOrder (byTolerance 0)
+ZeroByOrder = (percentile : ℕ) → 1 ≤ percentile → percentile ≤ 99 → ByOrder (byTolerance 0) percentile
+
+-- "For every b, re-exposed series answer alike, with the same premise about brightness order and no condition on tolerance" (document 02, Paper 6): so is every
+-- band, wherever P−b and P+b are from 1 to 99 (proved there as `band-by-order`).
+abbrev pub BandByOrder : Type 0
+BandByOrder = (band percentile : ℕ) → band < percentile → percentile + band ≤ 99 → ByOrder (byBand band) percentile
+
+-- So the rule of each accepted setting is one, but for a tolerance above 0 (proved there as `setting-by-order`).
+abbrev pub SettingByOrder : Type 0
+SettingByOrder = (exclusion : Exclusion) (percentile : ℕ) → toleranceIn exclusion ≡ 0 → PercentileOk exclusion percentile → ByOrder (ruleOf exclusion) percentile

@@ -50,6 +50,6 @@ pub record DiffersAtTolerance1 : Type 0 where
   pub ward : seriesAnswer wardOrder atTolerance1 taken ≡ record { offsets = pos 0 ∷ pos 0 ∷ pos 1 ∷ negsuc 0 ∷ []; counts = takenCounts; compared = takenCompared }
   pub ward′ : seriesAnswer wardOrder atTolerance1 takenAgain ≡ record { offsets = pos 0 ∷ pos 0 ∷ negsuc 0 ∷ negsuc 0 ∷ []; counts = zeros 9; compared = takenAgainCompared }
 
--- So tolerance 1 is no rule that sees grey values by their order alone. (Both are proved in proofs/Tolerance1Laws.antt.)
+-- So tolerance 1 is no rule that sees grey values by their order alone, at any percentile. (Both are proved in proofs/Tolerance1Laws.antt.)
 abbrev pub OneNotByOrder : Type 0
-OneNotByOrder = ByOrder (byTolerance 1) → ⊥
+OneNotByOrder = (percentile : ℕ) → ByOrder (byTolerance 1) percentile → ⊥

@@ -1,15 +1,17 @@
-// The order of document 01's refusal numbers, and tests that several calls share. A call's number is worked
+// The order of the refusal numbers, and tests that several calls share. A call's number is worked
 // out before it writes anything, from sizes, settings and lengths alone, but for a file's header (1) and
 // a common area's offsets (12, 13): the lowest that applies, 0 where none does.
 
 ghost use mathlib.Core.Path.{_≡_};
-ghost use Rattle.rules.specs.Refusals.{_when_, _orElse_, badSize, badFrames, badPercentile, toleranceRefusal};
+ghost use Rattle.rules.specs.Refusals.{_when_, _orElse_, badSize, badFrames, badPercentile, toleranceRefusal, bandRefusal};
 
 pub const MAX_SIDE: usize = 4096;
 
 pub const MAX_HALVINGS: u32 = 8;
 
 pub const MAX_TOLERANCE: u32 = 64;
+
+pub const MAX_BAND: u32 = 16;
 
 pub const MAX_FRAMES: usize = 16;
 
@@ -110,6 +112,16 @@ pub fn tolerance_refusal(tolerance: u32) -> u32
 {
     if MAX_TOLERANCE < tolerance {
         return 5;
+    }
+    0
+}
+
+// In the place of 5.
+pub fn band_refusal(band: u32) -> u32
+    ensures { λ r. ⌜ r ≡ bandRefusal band ⌝ }
+{
+    if MAX_BAND < band {
+        return 15;
     }
     0
 }

@@ -10,10 +10,13 @@ use lib.ListN.{length, getD}
 use borrow.Author.Tests.{ltb-true, ltb-false, eqb-false, not-false}
 use Rattle.rules.specs.declared.Offset.{Offset}
 use Rattle.rules.specs.declared.Paired.{Paired}
-use Rattle.rules.specs.Limits.{maxHalvings, maxFrames}
-use Rattle.rules.specs.Refusals.{_when_, _orElse_, shapeRefusal, badSize, badHalvings, tooSmall, badFrames, badReference, badPercentile, someBadPercentile, badPercentiles}
+use Rattle.rules.specs.declared.Exclusion.{Exclusion}
+use Rattle.rules.specs.Limits.{maxBand, maxHalvings, maxFrames}
+use Rattle.rules.specs.Refusals.{_when_, _orElse_, shapeRefusal, badSize, badHalvings, tooSmall, badBand, badFrames, badReference, badPercentile, someBadPercentile, badPercentiles}
 use Rattle.rules.specs.Refusals.{wrongLength, short, rasterLength, countsLength, levelPixels, greyNeeded, wordsNeeded, shortMemory, pairRefusal, seriesRefusal}
-use Rattle.rules.specs.Accepted.{ShapeOk, PairOk, FramesOk, SeriesOk}
+use Rattle.rules.specs.Accepted.{ShapeOk, PercentileOk, PairOk, FramesOk, SeriesOk}
+use Rattle.rules.specs.Levels.{bandIn}
+use Rattle.rules.specs.Calls.{exclusionRefusal}
 use Rattle.rules.specs.Answers.{paired}
 use Rattle.rules.proofs.RefusalLaws.{when-no, orElse-no, or-no, size-ok, length-is, length-no, percentile-ok}
 
@@ -73,11 +76,24 @@ memory-ok s w h grey words e =
     let p = or-no g v (when-no 11 (g || v) (omega arith) e) in
     (ltb-false grey (greyNeeded s w h) (p .0), ltb-false words (wordsNeeded w h) (p .1))
 
-pub pair-ok : (w h s excluded percentile first second counts compared grey words : ℕ)
-    → pairRefusal w h s excluded percentile first second counts compared grey words ≡ 0
-    → PairOk w h s percentile first second counts compared grey words
+-- With b at most 16 and P one of 17, 50 and 83, P−b is at least 1 and P+b at most 99.
+band-ok : (exclusion : Exclusion) → exclusionRefusal exclusion ≡ 0 → bandIn exclusion ≤ maxBand
+unfolding badBand
+band-ok (Exclusion.Tolerance tolerance) e = omega arith
+band-ok (Exclusion.Band band) e = ltb-false maxBand band (when-no 15 (badBand band) (omega arith) e)
+
+percentiles-in : (exclusion : Exclusion) (p : ℕ) → exclusionRefusal exclusion ≡ 0 → badPercentile p ≡ false → PercentileOk exclusion p
+percentiles-in exclusion p e f =
+    let a = band-ok exclusion e in
+    let b = percentile-ok p f in
+    record { least = omega arith; most = omega arith }
+
+pub pair-ok : (w h s : ℕ) (exclusion : Exclusion) (percentile first second counts compared grey words : ℕ)
+    → pairRefusal w h s (exclusionRefusal exclusion) percentile first second counts compared grey words ≡ 0
+    → PairOk w h s exclusion percentile first second counts compared grey words
 unfolding pairRefusal
-pair-ok w h s excluded percentile first second counts compared grey words e =
+pair-ok w h s exclusion percentile first second counts compared grey words e =
+    let excluded : ℕ = exclusionRefusal exclusion in
     let wrong1 : Bool = wrongLength (rasterLength w h) first in
     let wrong2 : Bool = wrongLength (rasterLength w h) second in
     let n11 : ℕ = 11 when shortMemory s w h grey words in
@@ -88,17 +104,16 @@ pair-ok w h s excluded percentile first second counts compared grey words e =
     let n8 : ℕ = 8 when badPercentile percentile in
     let rest : ℕ = n8 orElse n9 orElse n10 orElse n11 in
     let a = three-no (2 when badSize w h) (3 when badHalvings s) (4 when tooSmall w h s) (excluded orElse rest) e in
-    let b = orElse-no n8 (n9 orElse n10 orElse n11) (orElse-no excluded rest (a .1) .1) in
+    let x = orElse-no excluded rest (a .1) in
+    let b = orElse-no n8 (n9 orElse n10 orElse n11) (x .1) in
     let c = orElse-no n9 (n10 orElse n11) (b .1) in
     let d = orElse-no n10 n11 (c .1) in
-    let p = percentile-ok percentile (when-no 8 (badPercentile percentile) (omega arith) (b .0)) in
     let q = or-no wrong1 wrong2 (when-no 9 (wrong1 || wrong2) (omega arith) (c .0)) in
     let r = or-no short1 short2 (when-no 10 (short1 || short2) (omega arith) (d .0)) in
     let m = memory-ok s w h grey words (d .1) in
     record {
       shape = shape-ok w h s (a .0);
-      least = p .0;
-      most = p .1;
+      percentiles = percentiles-in exclusion percentile (x .0) (when-no 8 (badPercentile percentile) (omega arith) (b .0));
       exact1 = length-is (rasterLength w h) first (q .0);
       exact2 = length-is (rasterLength w h) second (q .1);
       room1 = ltb-false counts (countsLength s) (r .0);
@@ -120,17 +135,18 @@ frames-ok excluded n r e =
     }
 
 -- no percentile of a list is bad
-percentiles-ok : (ps : List ℕ) → someBadPercentile ps ≡ false → (k : ℕ) → k < length ps → (1 ≤ getD ps k 0) × (getD ps k 0 ≤ 99)
+percentiles-ok : (ps : List ℕ) → someBadPercentile ps ≡ false → (k : ℕ) → k < length ps → badPercentile (getD ps k 0) ≡ false
 unfolding someBadPercentile
 percentiles-ok [] e k l = absurd (omega arith)
-percentiles-ok (p ∷ ps) e zero l = percentile-ok p (or-no (badPercentile p) (someBadPercentile ps) e .0)
+percentiles-ok (p ∷ ps) e zero l = or-no (badPercentile p) (someBadPercentile ps) e .0
 percentiles-ok (p ∷ ps) e (suc k) l = percentiles-ok ps (or-no (badPercentile p) (someBadPercentile ps) e .1) k (le-of-suc-le-suc l)
 
-pub series-ok : (w h s excluded n r : ℕ) (ps : List ℕ) (rasters offsets counts compared grey words : ℕ)
-    → seriesRefusal w h s excluded n r ps rasters offsets counts compared grey words ≡ 0
-    → SeriesOk w h s n r ps rasters offsets counts compared grey words
+pub series-ok : (w h s : ℕ) (exclusion : Exclusion) (n r : ℕ) (ps : List ℕ) (rasters offsets counts compared grey words : ℕ)
+    → seriesRefusal w h s (exclusionRefusal exclusion) n r ps rasters offsets counts compared grey words ≡ 0
+    → SeriesOk w h s exclusion n r ps rasters offsets counts compared grey words
 unfolding seriesRefusal badPercentiles
-series-ok w h s excluded n r ps rasters offsets counts compared grey words e =
+series-ok w h s exclusion n r ps rasters offsets counts compared grey words e =
+    let excluded : ℕ = exclusionRefusal exclusion in
     let short1 : Bool = short (2 * n) offsets in
     let short2 : Bool = short (countsLength s * (n - 1)) counts in
     let short3 : Bool = short (countsLength s * (n - 1)) compared in
@@ -158,7 +174,7 @@ series-ok w h s excluded n r ps rasters offsets counts compared grey words e =
       frames = (f .least, f .most);
       reference = f .reference;
       percentiles = many;
-      percentile = λ j l. percentiles-ok ps (p .1) j (omega arith);
+      percentile = λ j l. percentiles-in exclusion (getD ps j 0) (orElse-no excluded (n6 orElse n7) (b .0) .0) (percentiles-ok ps (p .1) j (omega arith));
       exact = length-no (n * rasterLength w h) rasters (d .0);
       room1 = ltb-false offsets (2 * n) (q .0);
       room2 = ltb-false counts (countsLength s * (n - 1)) (t .0);

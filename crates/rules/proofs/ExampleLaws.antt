@@ -8,7 +8,7 @@ use Rattle.rules.specs.Sums.{sum, sumPixels}
 use Rattle.rules.specs.Frames.{Frame, frameOf}
 use Rattle.rules.specs.Greys.{grey, greyFrame, insert, sorted, secondSmallest, halved}
 use Rattle.rules.specs.Thresholds.{atMost, reaches, least, threshold}
-use Rattle.rules.specs.Planes.{thresholdBit, distance, exclusionBit, bitsBy, within}
+use Rattle.rules.specs.Planes.{thresholdBit, distance, exclusionBit, bandBit, bitsBy, within}
 use Rattle.rules.specs.Bitmaps.{rowWords}
 use Rattle.rules.specs.Refusals.{badSide, badSize, badHalvings, tooSmall, badTolerance, badPercentile, levelPixels, pairRefusal}
 use Rattle.rules.specs.Differences.{Planes, differ, keep, withPartner, difference, compared}
@@ -17,6 +17,7 @@ use Rattle.rules.specs.declared.Offset.{Offset}
 use Rattle.rules.specs.Calls.{pairResult}
 use Rattle.rules.specs.Examples.{ExamplesHold, PrintedWhole, one, oneToFour, firstRows, secondRows, colourless, numbers, printedResult, aligned}
 use Rattle.rules.specs.TwoLevels.{TwoLevels}
+use Rattle.rules.specs.Bands.{Noise}
 use Rattle.rules.specs.Ties.{tiedFirst, tiedSecond, tiedBy, Tied}
 use Rattle.rules.specs.FlatFrames.{flat, flatUnmoved, flatInCorner}
 
@@ -84,6 +85,11 @@ pub two-levels : TwoLevels
 unfolding sum sumPixels frameOf insert sorted secondSmallest halved atMost reaches least threshold thresholdBit
     distance exclusionBit within differ keep withPartner difference compared planesBy firstLeast chosen level countAt comparedAt pair
 two-levels = refl
+
+pub noise : Noise
+unfolding sum sumPixels frameOf insert sorted secondSmallest halved atMost reaches least threshold thresholdBit
+    bandBit within differ keep withPartner difference compared planesBy firstLeast chosen level countAt comparedAt pair
+noise = record { byRank = refl; without = refl }
 
 -- a tie by both orders, on the grey rows
 tied-rows : (order : List Offset) → tiedBy order ≡ pair order (byTolerance 0) 50 1 8 8 (frameOf 8 tiedFirst) (frameOf 8 tiedSecond)

@@ -18,3 +18,4 @@ pub mod PairLaws
 pub mod SeriesLaws
 pub mod FlatRasterLaws
 pub mod ShareLaws
+pub mod BandLaws

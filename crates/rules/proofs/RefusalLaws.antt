@@ -109,19 +109,19 @@ halve-ok w h grey out e =
       room = room-no (greyLength (w / 2) (h / 2)) out (r .1);
     }
 
-pub percentile-ok : (p : ℕ) → badPercentile p ≡ false → (1 ≤ p) × (p ≤ 99)
+pub percentile-ok : (p : ℕ) → badPercentile p ≡ false → (17 ≤ p) × (p ≤ 83)
 unfolding badPercentile
 percentile-ok p e = at17 (eqb p 17) refl
   where
-    at83 : (t : Bool) → eqb p 83 ≡ t → eqb p 17 ≡ false → eqb p 50 ≡ false → (1 ≤ p) × (p ≤ 99)
+    at83 : (t : Bool) → eqb p 83 ≡ t → eqb p 17 ≡ false → eqb p 50 ≡ false → (17 ≤ p) × (p ≤ 83)
     at83 true t a b = let z = eqb-true p 83 t in omega arith
     at83 false t a b = absurd (true≢false (simp (a, b, t) at e))
 
-    at50 : (t : Bool) → eqb p 50 ≡ t → eqb p 17 ≡ false → (1 ≤ p) × (p ≤ 99)
+    at50 : (t : Bool) → eqb p 50 ≡ t → eqb p 17 ≡ false → (17 ≤ p) × (p ≤ 83)
     at50 true t a = let z = eqb-true p 50 t in omega arith
     at50 false t a = at83 (eqb p 83) refl a t
 
-    at17 : (t : Bool) → eqb p 17 ≡ t → (1 ≤ p) × (p ≤ 99)
+    at17 : (t : Bool) → eqb p 17 ≡ t → (17 ≤ p) × (p ≤ 83)
     at17 true t = let z = eqb-true p 17 t in omega arith
     at17 false t = at50 (eqb p 50) refl t
 
@@ -135,8 +135,8 @@ threshold-ok w h percentile grey e =
     let r = percentile-ok percentile (when-no 8 (badPercentile percentile) (omega arith) (q .0)) in
     record {
       size = size-ok w h (p .0);
-      least = r .0;
-      most = r .1;
+      least = let l = r .0 in omega arith;
+      most = let l = r .1 in omega arith;
       exact = length-no (greyLength w h) grey (q .1);
     }
 

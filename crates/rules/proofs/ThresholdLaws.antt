@@ -1,6 +1,6 @@
 -- Laws of the smallest number that passes a test, and of the threshold as tests see it.
 use mathlib.Core.Path.{_≡_, refl, sym, ap, _∙_}
-use mathlib.Core.Bool.{Bool, true, false}
+use mathlib.Core.Bool.{Bool, true, false, true≢false}
 use mathlib.Core.Logic.{⊎-elim}
 use Prim.Native.Nat.{ℕ, zero, suc, _*_, _≤_, _<_}
 use native.Mathlib.Nat.{mul-comm, mul-le-mul-right}
@@ -40,6 +40,18 @@ least-ext (suc n) p q e =
     split : (t : Bool) → q 0 ≡ t → least n (λ v. p (suc v)) ≡ least n (λ v. q (suc v)) → least (suc n) p ≡ least (suc n) q
     split true t d = least-here n p (e 0 (omega arith) ∙ t) ∙ sym (least-here n q t)
     split false t d = least-later n p (e 0 (omega arith) ∙ t) ∙ ap suc d ∙ sym (least-later n q t)
+
+-- A test that passes wherever another one does has the smaller number.
+pub least-rises : (n : ℕ) (p q : ℕ → Bool) → ((v : ℕ) → q v ≡ true → p v ≡ true) → least n p ≤ least n q
+unfolding least
+least-rises zero p q more = omega arith
+least-rises (suc n) p q more =
+    split (p 0) refl (q 0) refl (least-rises n (λ v. p (suc v)) (λ v. q (suc v)) (λ v. more (suc v)))
+  where
+    split : (s : Bool) → p 0 ≡ s → (t : Bool) → q 0 ≡ t → least n (λ v. p (suc v)) ≤ least n (λ v. q (suc v)) → least (suc n) p ≤ least (suc n) q
+    split true s t u l = let a = least-here n p s in omega arith
+    split false s true u l = absurd (true≢false (sym (more 0 u) ∙ s))
+    split false s false u l = let a = least-later n p s in let b = least-later n q u in omega arith
 
 up : (p : ℕ → Bool) → ((u : ℕ) → p u ≡ true → p (suc u) ≡ true) → p 0 ≡ true → (u : ℕ) → p u ≡ true
 up p mono e zero = e

@@ -3,9 +3,11 @@ use mathlib.Core.Path.{_≡_}
 use mathlib.Core.List.{List}
 use Prim.Native.Nat.{ℕ, _+_, _*_, _-_, _/_, _^_, _≤_, _<_}
 use lib.ListN.{length, getD}
+use Rattle.rules.specs.declared.Exclusion.{Exclusion}
 use Rattle.rules.specs.Limits.{maxSide, maxTolerance, maxHalvings, maxFrames}
 use Rattle.rules.specs.Bitmaps.{rowWords}
 use Rattle.rules.specs.Refusals.{greyNeeded}
+use Rattle.rules.specs.Levels.{bandIn}
 
 -- sizes within their limits
 pub record SizeOk (w h : ℕ) : Type 0 where
@@ -65,10 +67,14 @@ pub record ShapeOk (w h s : ℕ) : Type 0 where
   pub wide : 2 ^ (s + 2) ≤ w
   pub high : 2 ^ (s + 2) ≤ h
 
-pub record PairOk (w h s percentile first second counts compared grey words : ℕ) : Type 0 where
+-- the percentiles whose thresholds a level takes are from 1 to 99
+pub record PercentileOk (exclusion : Exclusion) (percentile : ℕ) : Type 0 where
+  pub least : bandIn exclusion < percentile
+  pub most : percentile + bandIn exclusion ≤ 99
+
+pub record PairOk (w h s : ℕ) (exclusion : Exclusion) (percentile first second counts compared grey words : ℕ) : Type 0 where
   pub shape : ShapeOk w h s
-  pub least : 1 ≤ percentile
-  pub most : percentile ≤ 99
+  pub percentiles : PercentileOk exclusion percentile
   pub exact1 : first ≡ 3 * (w * h)
   pub exact2 : second ≡ 3 * (w * h)
   pub room1 : 9 * (s + 1) ≤ counts
@@ -81,12 +87,12 @@ pub record FramesOk (n r : ℕ) : Type 0 where
   pub most : n ≤ maxFrames
   pub reference : r < n
 
-pub record SeriesOk (w h s n r : ℕ) (ps : List ℕ) (rasters offsets counts compared grey words : ℕ) : Type 0 where
+pub record SeriesOk (w h s : ℕ) (exclusion : Exclusion) (n r : ℕ) (ps : List ℕ) (rasters offsets counts compared grey words : ℕ) : Type 0 where
   pub shape : ShapeOk w h s
   pub frames : (0 < n) × (n ≤ maxFrames)
   pub reference : r < n
   pub percentiles : length ps ≡ n - 1
-  pub percentile : (k : ℕ) → k < n - 1 → (1 ≤ getD ps k 0) × (getD ps k 0 ≤ 99)
+  pub percentile : (k : ℕ) → k < n - 1 → PercentileOk exclusion (getD ps k 0)
   pub exact : rasters ≡ n * (3 * (w * h))
   pub room1 : 2 * n ≤ offsets
   pub room2 : 9 * (s + 1) * (n - 1) ≤ counts

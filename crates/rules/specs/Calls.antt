@@ -20,7 +20,7 @@ use Rattle.rules.specs.Planes.{thresholdBit, exclusionBit, bitsBy, shift
 use Rattle.rules.specs.Bitmaps.{bitAt, packed}
 use Rattle.rules.specs.Differences.{Planes, difference, compared}
 use Rattle.rules.specs.Levels.{Aligned, alignedBy}
-use Rattle.rules.specs.Refusals.{greyRefusal, halveRefusal, thresholdRefusal, bitmapsRefusal, shiftRefusal, totalRefusal, differenceRefusal, toleranceRefusal, pairRefusal, seriesRefusal}
+use Rattle.rules.specs.Refusals.{greyRefusal, halveRefusal, thresholdRefusal, bitmapsRefusal, shiftRefusal, totalRefusal, differenceRefusal, toleranceRefusal, bandRefusal, pairRefusal, seriesRefusal}
 use Rattle.rules.specs.Series.{Settings, Answer, seriesAnswer}
 use Rattle.rules.specs.Answers.{written, counted, tallied, thresholded, paired, bufferAfter}
 
@@ -77,9 +77,14 @@ differenceAnswer w h dx dy threshold1 exclusion1 threshold2 exclusion2 =
 abbrev pub toleranceSetup : ℕ → ℕ → ℕ → ℕ → ℕ → Setup
 toleranceSetup w h s tolerance percentile = record { w = w; h = h; s = s; percentile = percentile; exclusion = Exclusion.Tolerance tolerance }
 
--- 5, or the number of another rule's limit in its place
+-- "an alignment, pair and series, with a band b from 0 to 16 in place of T" (document 02, Paper 6)
+abbrev pub bandSetup : ℕ → ℕ → ℕ → ℕ → ℕ → Setup
+bandSetup w h s band percentile = record { w = w; h = h; s = s; percentile = percentile; exclusion = Exclusion.Band band }
+
+-- 5, or 15 "in the place of 5"
 abbrev pub exclusionRefusal : Exclusion → ℕ
 exclusionRefusal (Exclusion.Tolerance tolerance) = toleranceRefusal tolerance
+exclusionRefusal (Exclusion.Band band) = bandRefusal band
 
 abbrev pub pairNumber : Setup → List ℕ → List ℕ → List ℕ → List ℕ → List ℕ → List ℕ → ℕ
 pairNumber S first second counts compared grey words =
@@ -102,10 +107,14 @@ abbrev pub PairCall : List Offset → Setup → List ℕ → List ℕ → List �
 PairCall order S first second counts counts′ compared compared′ grey grey′ words words′ r =
     PairLeft (pairNumber S first second counts compared grey words) (pairResult order S first second) counts counts′ compared compared′ grey grey′ words words′ r
 
--- Series alignment, by a tolerance too.
+-- Series alignment, by a tolerance and by a band too.
 abbrev pub toleranceSettings : ℕ → ℕ → ℕ → ℕ → ℕ → ℕ → List ℕ → Settings
 toleranceSettings w h s tolerance n r percentiles =
     record { frames = n; w = w; h = h; halvings = s; exclusion = Exclusion.Tolerance tolerance; reference = r; percentiles = percentiles }
+
+abbrev pub bandSettings : ℕ → ℕ → ℕ → ℕ → ℕ → ℕ → List ℕ → Settings
+bandSettings w h s band n r percentiles =
+    record { frames = n; w = w; h = h; halvings = s; exclusion = Exclusion.Band band; reference = r; percentiles = percentiles }
 
 abbrev pub seriesNumber : Settings → List ℕ → List ℤ → List ℕ → List ℕ → List ℕ → List ℕ → ℕ
 seriesNumber S rasters offsets counts compared grey words =

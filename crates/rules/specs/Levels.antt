@@ -2,7 +2,7 @@
 use mathlib.Core.Path.{_≡_}
 use mathlib.Core.Bool.{cond}
 use mathlib.Core.List.{List, [], _∷_, _++_, map}
-use Prim.Native.Nat.{ℕ, zero, suc, _+_, _/_, _≤_, _<_}
+use Prim.Native.Nat.{ℕ, zero, suc, _+_, _-_, _/_, _≤_, _<_}
 use lib.Dec.{eqb, ltb}
 use lib.IntN.{ℤ, pos, negsuc, natAbs, _+ℤ_}
 use lib.ListN.{length, getD}
@@ -14,7 +14,7 @@ use Rattle.rules.specs.Sums.{oneIf}
 use Rattle.rules.specs.Frames.{Frame}
 use Rattle.rules.specs.Greys.{halved}
 use Rattle.rules.specs.Thresholds.{threshold}
-use Rattle.rules.specs.Planes.{thresholdBit, exclusionBit, bitsBy}
+use Rattle.rules.specs.Planes.{thresholdBit, exclusionBit, bandBit, bitsBy}
 use Rattle.rules.specs.Differences.{Planes, difference, compared}
 
 -- "Offset (dx,dy) moves a frame right by dx and down by dy."
@@ -89,12 +89,24 @@ ExclusionRule = (ℕ → ℕ) → ℕ → ℕ → ℕ
 abbrev pub byTolerance : ℕ → ExclusionRule
 byTolerance tolerance thresholds percentile v = exclusionBit (thresholds percentile) tolerance v
 
-abbrev pub toleranceIn : Exclusion → ℕ
-toleranceIn (Exclusion.Tolerance tolerance) = tolerance
+-- document 02's, Paper 6: by the band b, "the thresholds for percentiles P−b and P+b"
+abbrev pub byBand : ℕ → ExclusionRule
+byBand band thresholds percentile v = bandBit (thresholds (percentile - band)) (thresholds (percentile + band)) v
 
 -- the rule that a setting names
 abbrev pub ruleOf : Exclusion → ExclusionRule
 ruleOf (Exclusion.Tolerance tolerance) = byTolerance tolerance
+ruleOf (Exclusion.Band band) = byBand band
+
+-- the grey steps that a setting leaves out around a threshold: a band is no number of grey steps
+abbrev pub toleranceIn : Exclusion → ℕ
+toleranceIn (Exclusion.Tolerance tolerance) = tolerance
+toleranceIn (Exclusion.Band band) = 0
+
+-- how far below and above the pair's percentile a setting takes further thresholds
+abbrev pub bandIn : Exclusion → ℕ
+bandIn (Exclusion.Tolerance tolerance) = 0
+bandIn (Exclusion.Band band) = band
 
 -- "Each level takes its threshold afresh": the two planes of a level's grey frame
 unfoldable pub planesBy : ExclusionRule → ℕ → ℕ → ℕ → Frame → Planes

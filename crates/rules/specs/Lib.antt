@@ -21,3 +21,4 @@ pub mod Ties
 pub mod Shares
 pub mod BlankSky
 pub mod FlatFrames
+pub mod Bands

@@ -1,4 +1,4 @@
--- The limits that document 01 sets, by name.
+-- The limits that the documents set, by name.
 use Prim.Native.Nat.{ℕ}
 
 -- "A frame has width w and height h, each 1 to 4096."
@@ -8,6 +8,10 @@ maxSide = 4096
 -- "T is the tolerance, 0 to 64."
 abbrev pub maxTolerance : ℕ
 maxTolerance = 64
+
+-- "a band b from 0 to 16 in place of T" (document 02, Paper 6)
+abbrev pub maxBand : ℕ
+maxBand = 16
 
 -- the brightest grey value that a byte holds
 abbrev pub maxGrey : ℕ

@@ -1,6 +1,7 @@
 -- The two bits of a pixel, bit planes, and their shift. A bit is 0 or 1; a plane is a frame of bits.
+use mathlib.Core.Bool.{_&&_, not}
 use Prim.Native.Nat.{ℕ, _-_, min, max}
-use lib.Dec.{ltb}
+use lib.Dec.{leb, ltb}
 use lib.IntN.{ℤ, pos, negsuc, _-ℤ_}
 use Rattle.rules.specs.Sums.{gate, oneIf, sumPixels}
 use Rattle.rules.specs.Frames.{Frame}
@@ -16,6 +17,10 @@ distance a b = max a b - min a b
 -- "Exclusion bit: 0 where |grey − t| ≤ T, else 1."
 unfoldable pub exclusionBit : ℕ → ℕ → ℕ → ℕ
 exclusionBit t tolerance v = oneIf (ltb tolerance (distance v t))
+
+-- "Its exclusion bit is 0 where grey lies between the thresholds …, both included", from lo to hi, else 1 (document 02, Paper 6).
+unfoldable pub bandBit : ℕ → ℕ → ℕ → ℕ
+bandBit lo hi v = oneIf (not (leb lo v && leb v hi))
 
 -- the plane of a grey frame by a rule for one pixel's bit
 abbrev pub bitsBy : (ℕ → ℕ) → Frame → Frame

@@ -5,7 +5,7 @@ use mathlib.Core.List.{List, [], _∷_}
 use Prim.Native.Nat.{ℕ, zero, suc, _+_, _*_, _-_, _/_, _^_}
 use lib.Dec.{ltb, eqb}
 use lib.ListN.{length}
-use Rattle.rules.specs.Limits.{maxSide, maxTolerance, maxHalvings, maxFrames}
+use Rattle.rules.specs.Limits.{maxSide, maxTolerance, maxBand, maxHalvings, maxFrames}
 use Rattle.rules.specs.Bitmaps.{rowWords}
 
 -- the number n when the condition applies, else 0
@@ -45,6 +45,14 @@ badTolerance tolerance = ltb maxTolerance tolerance
 -- the number that refuses a tolerance, 0 where none does
 abbrev pub toleranceRefusal : ℕ → ℕ
 toleranceRefusal tolerance = 5 when badTolerance tolerance
+
+-- 15. "b is above 16, tested in the place of 5" (document 02, Paper 6)
+unfoldable pub badBand : ℕ → Bool
+badBand band = ltb maxBand band
+
+-- the number that refuses a band, 0 where none does
+abbrev pub bandRefusal : ℕ → ℕ
+bandRefusal band = 15 when badBand band
 
 -- 6. "N is 0 or above 16."
 unfoldable pub badFrames : ℕ → Bool

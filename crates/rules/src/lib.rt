@@ -46,6 +46,8 @@ pub enum Order {
 pub enum Exclusion {
     // those at most this far from it
     Tolerance(u32),
+    // those from the threshold of the percentile this far below to that of the percentile this far above
+    Band(u32),
 }
 
 // How two frames of w by h are aligned, with s halvings.

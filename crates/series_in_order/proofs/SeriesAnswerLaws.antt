@@ -20,7 +20,7 @@ use Rattle.series_in_order.specs.Settings.{settingsOf}
 
 -- an accepted series gives its pairs what they need
 pub pairs-ok : (S : Setup) (n r : ℕ) (ps : List ℕ) (rasters offsets pairs counts compared grey words : ℕ) → 30 ≤ pairs
-    → SeriesOk (S .w) (S .h) (S .s) n r ps rasters offsets counts compared grey words → PairsOk S n ps rasters pairs counts compared grey words
+    → SeriesOk (S .w) (S .h) (S .s) (S .exclusion) n r ps rasters offsets counts compared grey words → PairsOk S n ps rasters pairs counts compared grey words
 pairs-ok S n r ps rasters offsets pairs counts compared grey words room k = record {
   shape = k .shape;
   frames = k .frames;

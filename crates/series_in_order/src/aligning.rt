@@ -30,7 +30,7 @@ pub fn align_series(
     order: &[usize; 9],
 )
     requires accepted { ⌜
-        SeriesOk (setup .w) (setup .h) (setup .s) n r (now percentiles)
+        SeriesOk (setup .w) (setup .h) (setup .s) (setup .exclusion) n r (now percentiles)
         (length (now rasters)) (length (now offsets)) (length (now counts)) (length (now compared)) (length (now grey)) (length (now words))
         ⌝ }
     requires order { ⌜ Arrangement (now order) ⌝ }

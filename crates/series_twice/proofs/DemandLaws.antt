@@ -4,21 +4,23 @@ use mathlib.Core.List.{List}
 use Prim.Native.Nat.{ℕ, _+_, _*_, _-_}
 use native.Mathlib.Omega.{arith}
 use lib.IntN.{ℤ}
-use lib.ListN.{length}
+use lib.ListN.{length, getD}
 use Rattle.rules.specs.declared.Offset.{Offset}
 use Rattle.rules.specs.declared.Written.{Written}
-use Rattle.rules.specs.declared.Order.{Order}
 use Rattle.rules.specs.Answers.{written, bufferAfter}
 use Rattle.rules.specs.Accepted.{SeriesOk}
-use Rattle.rules.specs.Levels.{orderOf, Arrangement, arranged, ruleOf}
+use Rattle.rules.specs.Levels.{leastMoveOrder, Arrangement, arranged, ruleOf}
 use Rattle.rules.specs.Series.{Settings, seriesAnswer}
-use Rattle.rules.specs.Calls.{exclusionRefusal, seriesNumber, SeriesCall}
+use Rattle.rules.specs.Calls.{seriesNumber, SeriesCall}
 use Rattle.rules.proofs.RefusalLaws.{buffer-part}
 use Rattle.rules.proofs.AlignmentLaws.{series-ok}
-use Rattle.reexposure.specs.Reexposure.{Bytes, Sound, Bounded, Alike}
+use Rattle.reexposure.specs.Reexposure.{Bytes, Sound, EachByOrder, Bounded, Alike}
+use Rattle.reexposure.proofs.OrderLaws.{setting-by-order}
 use Rattle.reexposure.proofs.Theorem.{demand3}
 use Rattle.rules.proofs.LevelLaws.{wardPlaces, leastMovePlaces, ward-arrangement, least-move-arrangement}
 use Rattle.rules.proofs.SeriesLaws.{offsets-size, counts-size, compared-size}
+use Rattle.series_twice.specs.declared.Kind.{Kind}
+use Rattle.series_twice.specs.Kinds.{orderBy}
 use Rattle.series_twice.specs.Demand.{packedAnswer, Given, Demanded}
 
 -- the packed answer of an accepted call is the pixel-by-pixel one
@@ -39,9 +41,13 @@ pub record Arranged (preferred : List Offset) : Type 0 where
   pub fits : Arrangement places
   pub is : arranged places ≡ preferred
 
-pub order-arranged : (order : Order) → Arranged (orderOf order)
-order-arranged Order.LeastMove = record { places = leastMovePlaces; fits = least-move-arrangement; is = refl }
-order-arranged Order.Ward = record { places = wardPlaces; fits = ward-arrangement; is = refl }
+least-move : Arranged leastMoveOrder
+least-move = record { places = leastMovePlaces; fits = least-move-arrangement; is = refl }
+
+pub order-arranged : (kind : Kind) → Arranged (orderBy kind)
+order-arranged (Kind.LeastMove tolerance) = least-move
+order-arranged (Kind.Ward tolerance) = record { places = wardPlaces; fits = ward-arrangement; is = refl }
+order-arranged (Kind.Band band) = least-move
 
 -- Two calls: for F, and for F′.
 module _ (preferred : List Offset) (nine : Arranged preferred) (S : Settings) (F F′ : List ℕ) (offsets1 offsets2 out1 out2 : List ℤ) (counts1 counts2 made1 made2 : List ℕ)
@@ -59,18 +65,21 @@ module _ (preferred : List Offset) (nine : Arranged preferred) (S : Settings) (F
   packed2 : packedAnswer S out2 made2 told2 ≡ seriesAnswer preferred S F′
   packed2 = packed-is preferred S F′ (seriesNumber S F′ offsets2 counts2 compared2 grey2 words2) offsets2 out2 counts2 made2 compared2 told2 zero2 (two .offsetsAre) (two .countsAre) (two .comparedAre)
 
-  ok : SeriesOk (S .w) (S .h) (S .halvings) (S .frames) (S .reference) (S .percentiles) (length F) (length offsets1) (length counts1) (length compared1) (length grey1) (length words1)
+  ok : SeriesOk (S .w) (S .h) (S .halvings) (S .exclusion) (S .frames) (S .reference) (S .percentiles) (length F) (length offsets1) (length counts1) (length compared1) (length grey1) (length words1)
   ok =
-      series-ok (S .w) (S .h) (S .halvings) (exclusionRefusal (S .exclusion)) (S .frames) (S .reference) (S .percentiles)
+      series-ok (S .w) (S .h) (S .halvings) (S .exclusion) (S .frames) (S .reference) (S .percentiles)
       (length F) (length offsets1) (length counts1) (length compared1) (length grey1) (length words1) (g .accepted)
 
   sound : Sound S
-  sound = record { reference = ok .reference; percentile = λ k l. ok .percentile k (omega arith) }
+  sound = record { reference = ok .reference; percentile = λ k l. let p = ok .percentile k (omega arith) in (let m = p .least in omega arith, let m = p .most in omega arith) }
+
+  byOrder : EachByOrder (ruleOf (S .exclusion)) S
+  byOrder k l = setting-by-order (S .exclusion) (getD (S .percentiles) k 0) (g .tolerance) (ok .percentile k (omega arith))
 
   alike : Alike preferred (ruleOf (S .exclusion)) S F F′
   alike =
       subst (λ (order : List Offset). Alike order (ruleOf (S .exclusion)) S F F′) (nine .is)
-      (demand3 (nine .places) (nine .fits) (ruleOf (S .exclusion)) (g .byOrder) S F F′ sound bytes bytes′ (g .alike))
+      (demand3 (nine .places) (nine .fits) (ruleOf (S .exclusion)) S F F′ sound byOrder bytes bytes′ (g .alike))
 
   same : seriesAnswer preferred S F ≡ seriesAnswer preferred S F′
   unfolding seriesAnswer

@@ -7,9 +7,9 @@ use lib.ListN.{length, take}
 use Rattle.rules.specs.declared.Written.{Written}
 use Rattle.rules.specs.Series.{Settings, Answer, seriesAnswer}
 use Rattle.rules.specs.declared.Offset.{Offset}
-use Rattle.rules.specs.Levels.{ruleOf}
+use Rattle.rules.specs.Levels.{toleranceIn}
 use Rattle.rules.specs.Calls.{seriesNumber}
-use Rattle.reexposure.specs.Reexposure.{Reexposed, Bounded, ByOrder}
+use Rattle.reexposure.specs.Reexposure.{Reexposed, Bounded}
 
 -- "Its packed answer is the offsets and counts that this call writes", and the compared numbers beside them (document 02, Paper 2): of what the three buffers
 -- hold when it returns, the first 2·N offsets, 9·(s+1)·(N−1) counts and as many compared numbers.
@@ -21,12 +21,12 @@ packedAnswer S offsets counts compared = record {
 }
 
 -- "Let F be any accepted series of N frames with s halvings, reference r and tolerance 0. Let F' be any series with the same sizes and settings in
--- which, within each frame, any two pixels compare in grey (darker, equal, brighter) as they do in F": F's refusal number is 0, its exclusion rule
--- sees grey values by their order alone, as tolerance 0 does, and F' is "handed over with lent buffers of the same lengths". Of each buffer F's stands
--- before that of F'.
+-- which, within each frame, any two pixels compare in grey (darker, equal, brighter) as they do in F": F's refusal number is 0, and F' is "handed over with
+-- lent buffers of the same lengths". A band has no tolerance: "for every b, re-exposed series answer alike, with the same premise about brightness order and no
+-- condition on tolerance" (document 02, Paper 6). Of each buffer F's stands before that of F'.
 pub record Given (S : Settings) (F F′ : List ℕ) (offsets offsets′ : List ℤ) (counts counts′ compared compared′ grey grey′ words words′ : List ℕ) : Type 0 where
   pub accepted : seriesNumber S F offsets counts compared grey words ≡ 0
-  pub byOrder : ByOrder (ruleOf (S .exclusion))
+  pub tolerance : toleranceIn (S .exclusion) ≡ 0
   pub rasterBytes : length F′ ≡ length F
   pub offsetRoom : length offsets′ ≡ length offsets
   pub countRoom : length counts′ ≡ length counts

@@ -1,12 +1,19 @@
 // Demand 3 as a contract: a series call, made for a series and for another one.
 
-use rules::Order;
 use rules::Written;
 use series::series;
 use series::series_ward;
-ghost use Rattle.rules.specs.Levels.{orderOf};
-ghost use Rattle.rules.specs.Calls.{toleranceSettings, SeriesCall};
+use series_band::series_band;
+ghost use Rattle.rules.specs.Calls.{SeriesCall};
+ghost use Rattle.series_twice.specs.Kinds.{orderBy, settingsBy};
 ghost use Rattle.series_twice.specs.Demand.{packedAnswer, Given, Demanded};
+
+// A series call, with its tolerance or its band.
+pub enum Kind {
+    LeastMove(u32),
+    Ward(u32),
+    Band(u32),
+}
 
 // The answers of two series calls.
 pub struct Answers {
@@ -14,13 +21,12 @@ pub struct Answers {
     pub second: Written,
 }
 
-// The series call of an order.
+// The series call of a kind.
 fn series_by(
-    order: Order,
+    kind: Kind,
     w: usize,
     h: usize,
     s: u32,
-    tolerance: u32,
     n: usize,
     r: usize,
     percentiles: &[u32],
@@ -32,13 +38,13 @@ fn series_by(
     words: &mut [u64],
 ) -> Written
     ensures { λ k. ⌜
-        SeriesCall (orderOf order) (toleranceSettings w h s tolerance n r (now (percentiles .entry))) (now (rasters .entry))
+        SeriesCall (orderBy kind) (settingsBy kind w h s n r (now (percentiles .entry))) (now (rasters .entry))
         (now (offsets .entry)) (now (offsets .exit)) (now (counts .entry)) (now (counts .exit)) (now (compared .entry)) (now (compared .exit))
         (now (grey .entry)) (now (grey .exit)) (now (words .entry)) (now (words .exit)) k
         ⌝ }
 {
-    match order {
-        Order::LeastMove => series(
+    match kind {
+        Kind::LeastMove(tolerance) => series(
             w,
             h,
             s,
@@ -53,11 +59,26 @@ fn series_by(
             grey,
             words,
         ),
-        Order::Ward => series_ward(
+        Kind::Ward(tolerance) => series_ward(
             w,
             h,
             s,
             tolerance,
+            n,
+            r,
+            percentiles,
+            rasters,
+            offsets,
+            counts,
+            compared,
+            grey,
+            words,
+        ),
+        Kind::Band(band) => series_band(
+            w,
+            h,
+            s,
+            band,
             n,
             r,
             percentiles,
@@ -75,11 +96,10 @@ fn series_by(
 // needs it: its contract is each call's own and, proved from both and from the theorem of `reexposure`,
 // what demand 3 says of every two such calls.
 pub fn align_twice(
-    order: Order,
+    kind: Kind,
     w: usize,
     h: usize,
     s: u32,
-    tolerance: u32,
     n: usize,
     r: usize,
     percentiles: &[u32],
@@ -97,30 +117,29 @@ pub fn align_twice(
     words2: &mut [u64],
 ) -> Answers
     ensures first { λ k. ⌜
-        SeriesCall (orderOf order) (toleranceSettings w h s tolerance n r (now (percentiles .entry))) (now (rasters1 .entry))
+        SeriesCall (orderBy kind) (settingsBy kind w h s n r (now (percentiles .entry))) (now (rasters1 .entry))
         (now (offsets1 .entry)) (now (offsets1 .exit)) (now (counts1 .entry)) (now (counts1 .exit)) (now (compared1 .entry)) (now (compared1 .exit))
         (now (grey1 .entry)) (now (grey1 .exit)) (now (words1 .entry)) (now (words1 .exit)) (k .first)
         ⌝ }
     ensures second { λ k. ⌜
-        SeriesCall (orderOf order) (toleranceSettings w h s tolerance n r (now (percentiles .entry))) (now (rasters2 .entry))
+        SeriesCall (orderBy kind) (settingsBy kind w h s n r (now (percentiles .entry))) (now (rasters2 .entry))
         (now (offsets2 .entry)) (now (offsets2 .exit)) (now (counts2 .entry)) (now (counts2 .exit)) (now (compared2 .entry)) (now (compared2 .exit))
         (now (grey2 .entry)) (now (grey2 .exit)) (now (words2 .entry)) (now (words2 .exit)) (k .second)
         ⌝ }
     ensures demand { λ k. ⌜
-        (Given (toleranceSettings w h s tolerance n r (now (percentiles .entry))) (now (rasters1 .entry)) (now (rasters2 .entry))
+        (Given (settingsBy kind w h s n r (now (percentiles .entry))) (now (rasters1 .entry)) (now (rasters2 .entry))
         (now (offsets1 .entry)) (now (offsets2 .entry)) (now (counts1 .entry)) (now (counts2 .entry)) (now (compared1 .entry)) (now (compared2 .entry))
         (now (grey1 .entry)) (now (grey2 .entry)) (now (words1 .entry)) (now (words2 .entry))
-        → Demanded (orderOf order) (toleranceSettings w h s tolerance n r (now (percentiles .entry))) (now (rasters2 .entry)) (k .second)
-        (packedAnswer (toleranceSettings w h s tolerance n r (now (percentiles .entry))) (now (offsets1 .exit)) (now (counts1 .exit)) (now (compared1 .exit)))
-        (packedAnswer (toleranceSettings w h s tolerance n r (now (percentiles .entry))) (now (offsets2 .exit)) (now (counts2 .exit)) (now (compared2 .exit))))
+        → Demanded (orderBy kind) (settingsBy kind w h s n r (now (percentiles .entry))) (now (rasters2 .entry)) (k .second)
+        (packedAnswer (settingsBy kind w h s n r (now (percentiles .entry))) (now (offsets1 .exit)) (now (counts1 .exit)) (now (compared1 .exit)))
+        (packedAnswer (settingsBy kind w h s n r (now (percentiles .entry))) (now (offsets2 .exit)) (now (counts2 .exit)) (now (compared2 .exit))))
         ⌝ }
 {
     let first = series_by(
-        order,
+        kind,
         w,
         h,
         s,
-        tolerance,
         n,
         r,
         percentiles,
@@ -132,11 +151,10 @@ pub fn align_twice(
         words1,
     );
     let second = series_by(
-        order,
+        kind,
         w,
         h,
         s,
-        tolerance,
         n,
         r,
         percentiles,

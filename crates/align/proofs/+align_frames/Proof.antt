@@ -49,7 +49,7 @@ align-level-requires t c κs =
     let r = frames-room (a .first) (a .second) (a .setup) (length (a .grey .now)) (b .pre .1 .0) in (
       frames-sides (a .first) (a .second) (a .setup) (length (a .grey .now)) (b .pre .1 .0),
       (
-        (f .least, f .most),
+        f .percentiles,
         (
           (let l = f .one in omega arith, let l = f .two in omega arith),
           (
@@ -238,7 +238,7 @@ align-level-requires-2 t c κs =
     let two = c .before .before .before .before .doubled in (
       frames-sides (a .first) (a .second) (a .setup) (length (a .grey .now)) (b .pre .1 .0),
       (
-        (f .least, f .most),
+        f .percentiles,
         (
           (let l = f .one in omega arith, let l = f .two in omega arith),
           (

@@ -33,7 +33,7 @@ align-quadrant-requires c κs =
     let s = c .before .before .before .before .before .before .before .before .before in
     let lp = c .before .before .before .before .loop in
     let a = s .args in (
-      same-memory (a .setup .w) (a .setup .h) (a .setup .s) (a .setup .percentile) (length (a .first .now)) (length (a .second .now)) (length (a .grey .now)) (length (lp .grey))
+      same-memory (a .setup .w) (a .setup .h) (a .setup .s) (a .setup .exclusion) (a .setup .percentile) (length (a .first .now)) (length (a .second .now)) (length (a .grey .now)) (length (lp .grey))
           (length (a .words .now)) (length (lp .words)) (lp .inv .2) (lp .inv .3) (s .pre .0),
       s .pre .1 .1,
     )

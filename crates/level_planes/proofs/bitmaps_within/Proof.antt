@@ -1,9 +1,12 @@
--- The counts of the lent part give the frame's threshold, so the two intervals give the frame's planes.
+-- The counts of the lent part give the frame's thresholds, so the two intervals give the frame's planes.
 use mathlib.Core.Path.{_≡_, _∙_}
 use Prim.Native.Nat.{_*_, _≤_}
 use lib.ListN.{length, take, drop}
+use Rattle.rules.specs.Frames.{frameOf}
+use Rattle.rules.specs.Thresholds.{threshold}
+use Rattle.level_planes.specs.Excluded.{Excludes}
 use Rattle.level_planes.proofs.FrameSideLaws.{sized}
-use Rattle.level_planes.proofs.PlaneLaws.{part-length, part-threshold, packed-at}
+use Rattle.level_planes.proofs.PlaneLaws.{part-length, part-threshold, part-excludes, packed-at}
 use native.Mathlib.Omega.{arith}
 use borrow.Author.Needs.{needs}
 use Rattle.level_planes.proofs.bitmaps_within.Statement.{statement}
@@ -32,8 +35,8 @@ histogram-requires c κs =
     let len = part-length (a .setup .w) (a .setup .h) (a .from) (a .grey .now) (s .pre .1 .1 .0) in
     omega arith
 
-mul-threshold-of : tie.Need-mul-threshold-of
-mul-threshold-of c = search needs
+mul-pixels : tie.Need-mul-pixels
+mul-pixels c = search needs
 
 threshold-of-requires : tie.Need-threshold-of-requires
 threshold-of-requires c κs =
@@ -41,31 +44,50 @@ threshold-of-requires c κs =
     let a = s .args in (
       c .before .histogram .ensures .all ∙ part-length (a .setup .w) (a .setup .h) (a .from) (a .grey .now) (s .pre .1 .1 .0),
       sized (a .setup .w) (a .setup .h) (s .pre .0) .area,
-      s .pre .1 .0 .1,
+      let most = s .pre .1 .0 .most in omega arith,
     )
 
 excluded-requires : tie.Need-excluded-requires
-excluded-requires c κs = search needs
+excluded-requires c κs =
+    let s = c .before .before .before .before .before .before .before in
+    let a = s .args in (
+      (
+        c .before .before .before .histogram .ensures .all ∙ part-length (a .setup .w) (a .setup .h) (a .from) (a .grey .now) (s .pre .1 .1 .0),
+        sized (a .setup .w) (a .setup .h) (s .pre .0) .area,
+      ),
+      s .pre .1 .0,
+    )
+
+-- what the level leaves out, by the frame's own thresholds
+excludes : (c : tie.After-excluded)
+    → let a = c .before .before .before .before .before .before .before .before .args in
+    Excludes (a .setup .exclusion) (λ p. threshold (a .setup .w) (a .setup .h) p (frameOf (a .setup .w) (drop (a .from) (a .grey .now)))) (a .setup .percentile)
+    (c .excluded .result .lo) (c .excluded .result .hi)
+excludes c =
+    let s = c .before .before .before .before .before .before .before .before in
+    let a = s .args in
+    let counts = c .before .before .before .before .histogram .ensures in
+    part-excludes (a .setup .w) (a .setup .h) (a .from) (a .grey .now) (s .pre .1 .1 .0) (a .setup .exclusion) (a .setup .percentile) _ _
+    (c .excluded .ensures _ counts (c .before .before .threshold-of .ensures _ counts))
 
 pack-within-requires : tie.Need-pack-within-requires
 pack-within-requires c κs =
-    let p = c .before .before .before .before .before .before .before .before .pre in
-    (p .0, (p .1 .1 .0, (p .1 .1 .1, c .before .excluded .ensures .ordered)))
+    let p = c .before .before .before .before .before .before .before .before .before .pre in
+    (p .0, (p .1 .1 .0, (p .1 .1 .1, excludes (c .before) .ordered)))
 
 same-length : tie.Need-same-length
 same-length c = search needs
 
 returns : tie.Need-returns
 returns c =
-    let s = c .before .before .before .before .before .before .before .before .before .before .before in
+    let s = c .before .before .before .before .before .before .before .before .before .before .before .before in
     let a = s .args in
-    let counts = c .before .before .before .before .before .before .before .histogram in
-    let t = c .before .before .before .before .before .threshold-of in
-    let out = c .before .before .before .before .excluded in
-    packed-at (a .setup) (a .from) (a .grey .now) (a .to) (a .words .now) _ (t .result) (out .result .lo) (out .result .hi)
-    (λ i. c .before .before .before .before .before .before .before .before .before .before .shared-slice-known .given i .fits)
-    (t .ensures _ (counts .ensures) ∙ part-threshold (a .setup .w) (a .setup .h) (a .from) (a .grey .now) (s .pre .1 .1 .0) (a .setup .percentile))
-    (out .ensures) (c .before .before .pack-within .ensures)
+    let out = c .before .before .before .before in
+    let t = out .before .before .threshold-of in
+    packed-at (a .setup) (a .from) (a .grey .now) (a .to) (a .words .now) _ (t .result) (out .excluded .result .lo) (out .excluded .result .hi)
+    (λ i. c .before .before .before .before .before .before .before .before .before .before .before .shared-slice-known .given i .fits)
+    (t .ensures _ (out .before .before .before .before .histogram .ensures) ∙ part-threshold (a .setup .w) (a .setup .h) (a .from) (a .grey .now) (s .pre .1 .1 .0) (a .setup .percentile))
+    (excludes out) (c .before .before .pack-within .ensures)
 
 pub bitmaps-within-spec : {M : Type 1} → statement M
 bitmaps-within-spec =
@@ -77,7 +99,7 @@ bitmaps-within-spec =
     part-histogram-start
     part-histogram-end
     histogram-requires
-    mul-threshold-of
+    mul-pixels
     threshold-of-requires
     excluded-requires
     pack-within-requires

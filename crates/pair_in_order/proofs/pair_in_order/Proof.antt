@@ -49,8 +49,8 @@ align-rasters-requires : tie.Need-align-rasters-requires
 align-rasters-requires c κs =
     let d = c .before .before .before .before .before in
     let a = begun d .args in (
-      pair-ok (a .setup .w) (a .setup .h) (a .setup .s) _ (a .setup .percentile) (length (a .first .now)) (length (a .second .now)) (length (a .counts .now))
-          (length (a .compared .now)) (length (a .grey .now)) (length (a .words .now)) (sym (d .pair-refusal .ensures) ∙ c .before .before .before .before .if1 .left),
+      pair-ok (a .setup .w) (a .setup .h) (a .setup .s) (a .setup .exclusion) (a .setup .percentile) (length (a .first .now)) (length (a .second .now)) (length (a .counts .now))
+          (length (a .compared .now)) (length (a .grey .now)) (length (a .words .now)) (sym (number-is d) ∙ c .before .before .before .before .if1 .left),
       begun d .pre .1,
     )
 

@@ -4,6 +4,7 @@ use mathlib.Core.Bool.{true, false}
 use Prim.Native.Nat.{ℕ}
 use lib.ListN.{length}
 use borrow.Author.Needs.{needs}
+use Rattle.rules.specs.declared.Exclusion.{Exclusion}
 use Rattle.rules.specs.Levels.{leastMoveOrder}
 use Rattle.rules.specs.Calls.{toleranceSetup}
 use Rattle.quadrant_refusals.specs.QuadrantRefusals.{quadrantsRefusal}
@@ -48,7 +49,7 @@ align-quadrants-requires c κs =
     let d = c .before .before .before .before .before .before in
     let a = begun d .args in
     let none = sym (number-is d) ∙ c .before .before .before .before .before .if1 .left in
-    let ok = quadrants-ok (a .w) (a .h) (a .s) _ (a .percentile) (length (a .first .now)) (length (a .second .now)) (length (a .offsets .now)) (length (a .grey .now)) (length (a .words .now)) none in
+    let ok = quadrants-ok (a .w) (a .h) (a .s) (Exclusion.Tolerance (a .tolerance)) (a .percentile) (length (a .first .now)) (length (a .second .now)) (length (a .offsets .now)) (length (a .grey .now)) (length (a .words .now)) none in
     let room = unrefused (a .w) (a .h) (a .s) _ (a .percentile) (length (a .first .now)) (length (a .second .now)) (length (a .offsets .now)) (length (a .grey .now)) (length (a .words .now)) none .room in
     (ok, (room, c .before .before .before .before .places .ensures .1))
 

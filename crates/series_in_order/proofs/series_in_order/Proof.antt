@@ -53,8 +53,8 @@ align-series-requires : tie.Need-align-series-requires
 align-series-requires c κs =
     let d = c .before .before .before .before .before .before in
     let a = begun d .args in (
-      series-ok (a .setup .w) (a .setup .h) (a .setup .s) _ (a .n) (a .r) (a .percentiles .now) (length (a .rasters .now)) (length (a .offsets .now))
-          (length (a .counts .now)) (length (a .compared .now)) (length (a .grey .now)) (length (a .words .now)) (sym (d .series-refusal .ensures) ∙ c .before .before .before .before .before .if1 .left),
+      series-ok (a .setup .w) (a .setup .h) (a .setup .s) (a .setup .exclusion) (a .n) (a .r) (a .percentiles .now) (length (a .rasters .now)) (length (a .offsets .now))
+          (length (a .counts .now)) (length (a .compared .now)) (length (a .grey .now)) (length (a .words .now)) (sym (number-is d) ∙ c .before .before .before .before .before .if1 .left),
       begun d .pre .1,
     )
 

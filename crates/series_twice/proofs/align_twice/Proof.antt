@@ -1,8 +1,7 @@
 -- Each call ensures its own; demand 3 follows from both. The rasters hold bytes.
 use native.Mathlib.Omega.{arith}
 use borrow.Author.Needs.{needs}
-use Rattle.rules.specs.Calls.{toleranceSettings}
-use Rattle.rules.specs.Levels.{orderOf}
+use Rattle.series_twice.specs.Kinds.{orderBy, settingsBy}
 use Rattle.series_twice.proofs.DemandLaws.{order-arranged, demanded}
 use Rattle.series_twice.proofs.align_twice.Statement.{statement}
 use Rattle.series_twice.proofs.align_twice.Tie as tie
@@ -65,12 +64,12 @@ returns c =
       one .ensures,
       (
         two .ensures,
-        demanded (orderOf (a .order)) (order-arranged (a .order)) (toleranceSettings (a .w) (a .h) (a .s) (a .tolerance) (a .n) (a .r) (a .percentiles .now)) (a .rasters1 .now) (a .rasters2 .now)
-            (a .offsets1 .now) (a .offsets2 .now) (one .last .1 .1 .1 .1 .1 .1 .1 .1 .1 .0) (two .last .1 .1 .1 .1 .1 .1 .1 .1 .1 .0) (a .counts1 .now) (a .counts2 .now)
-            (one .last .1 .1 .1 .1 .1 .1 .1 .1 .1 .1 .0) (two .last .1 .1 .1 .1 .1 .1 .1 .1 .1 .1 .0)
-            (a .compared1 .now) (a .compared2 .now) (one .last .1 .1 .1 .1 .1 .1 .1 .1 .1 .1 .1 .0) (two .last .1 .1 .1 .1 .1 .1 .1 .1 .1 .1 .1 .0)
-            (a .grey1 .now) (one .last .1 .1 .1 .1 .1 .1 .1 .1 .1 .1 .1 .1 .0) (a .grey2 .now) (two .last .1 .1 .1 .1 .1 .1 .1 .1 .1 .1 .1 .1 .0)
-            (a .words1 .now) (one .last .1 .1 .1 .1 .1 .1 .1 .1 .1 .1 .1 .1 .1 .0) (a .words2 .now) (two .last .1 .1 .1 .1 .1 .1 .1 .1 .1 .1 .1 .1 .1 .0)
+        demanded (orderBy (a .kind)) (order-arranged (a .kind)) (settingsBy (a .kind) (a .w) (a .h) (a .s) (a .n) (a .r) (a .percentiles .now)) (a .rasters1 .now) (a .rasters2 .now)
+            (a .offsets1 .now) (a .offsets2 .now) (one .last .1 .1 .1 .1 .1 .1 .1 .1 .0) (two .last .1 .1 .1 .1 .1 .1 .1 .1 .0) (a .counts1 .now) (a .counts2 .now)
+            (one .last .1 .1 .1 .1 .1 .1 .1 .1 .1 .0) (two .last .1 .1 .1 .1 .1 .1 .1 .1 .1 .0)
+            (a .compared1 .now) (a .compared2 .now) (one .last .1 .1 .1 .1 .1 .1 .1 .1 .1 .1 .0) (two .last .1 .1 .1 .1 .1 .1 .1 .1 .1 .1 .0)
+            (a .grey1 .now) (one .last .1 .1 .1 .1 .1 .1 .1 .1 .1 .1 .1 .0) (a .grey2 .now) (two .last .1 .1 .1 .1 .1 .1 .1 .1 .1 .1 .1 .0)
+            (a .words1 .now) (one .last .1 .1 .1 .1 .1 .1 .1 .1 .1 .1 .1 .1 .0) (a .words2 .now) (two .last .1 .1 .1 .1 .1 .1 .1 .1 .1 .1 .1 .1 .0)
             (one .result) (two .result)
             (λ i. let l = known .before .shared-slice-known2 .given i in omega arith)
             (λ i. let l = known .shared-slice-known3 .given i in omega arith)
