@@ -20,7 +20,8 @@ use Rattle.rules.specs.Planes.{thresholdBit, exclusionBit, bitsBy, shift
 use Rattle.rules.specs.Bitmaps.{bitAt, packed}
 use Rattle.rules.specs.Differences.{Planes, difference, compared}
 use Rattle.rules.specs.Levels.{Aligned, alignedBy}
-use Rattle.rules.specs.Refusals.{greyRefusal, halveRefusal, thresholdRefusal, bitmapsRefusal, shiftRefusal, totalRefusal, differenceRefusal, toleranceRefusal, bandRefusal, pairRefusal, seriesRefusal}
+use Rattle.rules.specs.Refusals.{greyRefusal, halveRefusal, thresholdRefusal, bitmapsRefusal, shiftRefusal, totalRefusal, differenceRefusal}
+use Rattle.rules.specs.Refusals.{toleranceRefusal, bandRefusal, pairRefusal, seriesRefusal}
 use Rattle.rules.specs.Series.{Settings, Answer, seriesAnswer}
 use Rattle.rules.specs.Answers.{written, counted, tallied, thresholded, paired, bufferAfter}
 

@@ -1,4 +1,4 @@
--- The refusal number of each call: "the lowest that applies is given, and none otherwise"; 0 is none.
+-- The refusal number of each call: "the lowest that applies is given, and none otherwise"; 0 is none. A number of document 02 is tested where its paper places it.
 -- The conditions see sizes, settings (a series' percentiles among them) and lengths, never a pixel.
 use mathlib.Core.Bool.{Bool, true, false, _||_, not}
 use mathlib.Core.List.{List, [], _∷_}

@@ -7,9 +7,10 @@ use lib.IntN.{ℤ}
 use lib.ListN.{length, getD}
 use Rattle.rules.specs.declared.Offset.{Offset}
 use Rattle.rules.specs.declared.Written.{Written}
+use Rattle.rules.specs.declared.Order.{Order}
 use Rattle.rules.specs.Answers.{written, bufferAfter}
 use Rattle.rules.specs.Accepted.{SeriesOk}
-use Rattle.rules.specs.Levels.{leastMoveOrder, Arrangement, arranged, ruleOf}
+use Rattle.rules.specs.Levels.{orderOf, Arrangement, arranged, ruleOf}
 use Rattle.rules.specs.Series.{Settings, seriesAnswer}
 use Rattle.rules.specs.Calls.{seriesNumber, SeriesCall}
 use Rattle.rules.proofs.RefusalLaws.{buffer-part}
@@ -41,13 +42,13 @@ pub record Arranged (preferred : List Offset) : Type 0 where
   pub fits : Arrangement places
   pub is : arranged places ≡ preferred
 
-least-move : Arranged leastMoveOrder
-least-move = record { places = leastMovePlaces; fits = least-move-arrangement; is = refl }
+order-arranged : (order : Order) → Arranged (orderOf order)
+order-arranged Order.LeastMove = record { places = leastMovePlaces; fits = least-move-arrangement; is = refl }
+order-arranged Order.Ward = record { places = wardPlaces; fits = ward-arrangement; is = refl }
 
-pub order-arranged : (kind : Kind) → Arranged (orderBy kind)
-order-arranged (Kind.LeastMove tolerance) = least-move
-order-arranged (Kind.Ward tolerance) = record { places = wardPlaces; fits = ward-arrangement; is = refl }
-order-arranged (Kind.Band band) = least-move
+pub kind-arranged : (kind : Kind) → Arranged (orderBy kind)
+kind-arranged (Kind.Tolerance order tolerance) = order-arranged order
+kind-arranged (Kind.Band band) = order-arranged Order.LeastMove
 
 -- Two calls: for F, and for F′.
 module _ (preferred : List Offset) (nine : Arranged preferred) (S : Settings) (F F′ : List ℕ) (offsets1 offsets2 out1 out2 : List ℤ) (counts1 counts2 made1 made2 : List ℕ)

@@ -3,18 +3,16 @@ use mathlib.Core.List.{List}
 use Prim.Native.Nat.{ℕ}
 use Rattle.rules.specs.declared.Offset.{Offset}
 use Rattle.rules.specs.declared.Exclusion.{Exclusion}
-use Rattle.rules.specs.Levels.{wardOrder, leastMoveOrder}
+use Rattle.rules.specs.Levels.{leastMoveOrder, orderOf}
 use Rattle.rules.specs.Series.{Settings}
 use Rattle.series_twice.specs.declared.Kind.{Kind}
 
 abbrev pub orderBy : Kind → List Offset
-orderBy (Kind.LeastMove tolerance) = leastMoveOrder
-orderBy (Kind.Ward tolerance) = wardOrder
+orderBy (Kind.Tolerance order tolerance) = orderOf order
 orderBy (Kind.Band band) = leastMoveOrder
 
 abbrev pub exclusionBy : Kind → Exclusion
-exclusionBy (Kind.LeastMove tolerance) = Exclusion.Tolerance tolerance
-exclusionBy (Kind.Ward tolerance) = Exclusion.Tolerance tolerance
+exclusionBy (Kind.Tolerance order tolerance) = Exclusion.Tolerance tolerance
 exclusionBy (Kind.Band band) = Exclusion.Band band
 
 abbrev pub settingsBy : Kind → ℕ → ℕ → ℕ → ℕ → ℕ → List ℕ → Settings

@@ -1,17 +1,18 @@
 // Demand 3 as a contract: a series call, made for a series and for another one.
 
+use rules::Order;
 use rules::Written;
 use series::series;
 use series::series_ward;
 use series_band::series_band;
-ghost use Rattle.rules.specs.Calls.{SeriesCall};
+ghost use Rattle.rules.specs.Levels.{orderOf};
+ghost use Rattle.rules.specs.Calls.{toleranceSettings, SeriesCall};
 ghost use Rattle.series_twice.specs.Kinds.{orderBy, settingsBy};
 ghost use Rattle.series_twice.specs.Demand.{packedAnswer, Given, Demanded};
 
-// A series call, with its tolerance or its band.
+// A series call, by its order and tolerance, or by its band.
 pub enum Kind {
-    LeastMove(u32),
-    Ward(u32),
+    Tolerance(Order, u32),
     Band(u32),
 }
 
@@ -19,6 +20,63 @@ pub enum Kind {
 pub struct Answers {
     pub first: Written,
     pub second: Written,
+}
+
+// The series call of an order, by a tolerance.
+fn series_in(
+    order: Order,
+    w: usize,
+    h: usize,
+    s: u32,
+    tolerance: u32,
+    n: usize,
+    r: usize,
+    percentiles: &[u32],
+    rasters: &[u8],
+    offsets: &mut [i32],
+    counts: &mut [u32],
+    compared: &mut [u32],
+    grey: &mut [u8],
+    words: &mut [u64],
+) -> Written
+    ensures { λ k. ⌜
+        SeriesCall (orderOf order) (toleranceSettings w h s tolerance n r (now (percentiles .entry))) (now (rasters .entry))
+        (now (offsets .entry)) (now (offsets .exit)) (now (counts .entry)) (now (counts .exit)) (now (compared .entry)) (now (compared .exit))
+        (now (grey .entry)) (now (grey .exit)) (now (words .entry)) (now (words .exit)) k
+        ⌝ }
+{
+    match order {
+        Order::LeastMove => series(
+            w,
+            h,
+            s,
+            tolerance,
+            n,
+            r,
+            percentiles,
+            rasters,
+            offsets,
+            counts,
+            compared,
+            grey,
+            words,
+        ),
+        Order::Ward => series_ward(
+            w,
+            h,
+            s,
+            tolerance,
+            n,
+            r,
+            percentiles,
+            rasters,
+            offsets,
+            counts,
+            compared,
+            grey,
+            words,
+        ),
+    }
 }
 
 // The series call of a kind.
@@ -44,22 +102,8 @@ fn series_by(
         ⌝ }
 {
     match kind {
-        Kind::LeastMove(tolerance) => series(
-            w,
-            h,
-            s,
-            tolerance,
-            n,
-            r,
-            percentiles,
-            rasters,
-            offsets,
-            counts,
-            compared,
-            grey,
-            words,
-        ),
-        Kind::Ward(tolerance) => series_ward(
+        Kind::Tolerance(order, tolerance) => series_in(
+            order,
             w,
             h,
             s,

@@ -2,7 +2,7 @@
 use native.Mathlib.Omega.{arith}
 use borrow.Author.Needs.{needs}
 use Rattle.series_twice.specs.Kinds.{orderBy, settingsBy}
-use Rattle.series_twice.proofs.DemandLaws.{order-arranged, demanded}
+use Rattle.series_twice.proofs.DemandLaws.{kind-arranged, demanded}
 use Rattle.series_twice.proofs.align_twice.Statement.{statement}
 use Rattle.series_twice.proofs.align_twice.Tie as tie
 
@@ -64,7 +64,7 @@ returns c =
       one .ensures,
       (
         two .ensures,
-        demanded (orderBy (a .kind)) (order-arranged (a .kind)) (settingsBy (a .kind) (a .w) (a .h) (a .s) (a .n) (a .r) (a .percentiles .now)) (a .rasters1 .now) (a .rasters2 .now)
+        demanded (orderBy (a .kind)) (kind-arranged (a .kind)) (settingsBy (a .kind) (a .w) (a .h) (a .s) (a .n) (a .r) (a .percentiles .now)) (a .rasters1 .now) (a .rasters2 .now)
             (a .offsets1 .now) (a .offsets2 .now) (one .last .1 .1 .1 .1 .1 .1 .1 .1 .0) (two .last .1 .1 .1 .1 .1 .1 .1 .1 .0) (a .counts1 .now) (a .counts2 .now)
             (one .last .1 .1 .1 .1 .1 .1 .1 .1 .1 .0) (two .last .1 .1 .1 .1 .1 .1 .1 .1 .1 .0)
             (a .compared1 .now) (a .compared2 .now) (one .last .1 .1 .1 .1 .1 .1 .1 .1 .1 .1 .0) (two .last .1 .1 .1 .1 .1 .1 .1 .1 .1 .1 .0)

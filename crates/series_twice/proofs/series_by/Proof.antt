@@ -6,17 +6,11 @@ use Rattle.series_twice.proofs.series_by.Tie as tie
 enum-known-kind : tie.Need-enum-known-kind
 enum-known-kind c = search needs
 
-series-requires : tie.Need-series-requires
-series-requires c κs = search needs
+series-in-requires : tie.Need-series-in-requires
+series-in-requires c κs = search needs
 
 enum-known-kind-2 : tie.Need-enum-known-kind-2
 enum-known-kind-2 c = search needs
-
-series-ward-requires : tie.Need-series-ward-requires
-series-ward-requires c κs = search needs
-
-enum-known-kind-3 : tie.Need-enum-known-kind-3
-enum-known-kind-3 c = search needs
 
 series-band-requires : tie.Need-series-band-requires
 series-band-requires c κs = search needs
@@ -40,7 +34,7 @@ returns : tie.Need-returns
 returns c =
     let r = c .before .before .before .before .before .before .before .before .before in
     let e = r .before .before .before .before .before .before .before .kind .given .1 in
-    rw e (r .series .ensures)
+    rw e (r .series-in .ensures)
 
 same-length-6 : tie.Need-same-length-6
 same-length-6 c = search needs
@@ -61,27 +55,6 @@ returns-2 : tie.Need-returns-2
 returns-2 c =
     let r = c .before .before .before .before .before .before .before .before .before in
     let e = r .before .before .before .before .before .before .before .kind2 .given .1 in
-    rw e (r .series-ward .ensures)
-
-same-length-11 : tie.Need-same-length-11
-same-length-11 c = search needs
-
-same-length-12 : tie.Need-same-length-12
-same-length-12 c = search needs
-
-same-length-13 : tie.Need-same-length-13
-same-length-13 c = search needs
-
-same-length-14 : tie.Need-same-length-14
-same-length-14 c = search needs
-
-same-length-15 : tie.Need-same-length-15
-same-length-15 c = search needs
-
-returns-3 : tie.Need-returns-3
-returns-3 c =
-    let r = c .before .before .before .before .before .before .before .before .before in
-    let e = r .before .before .before .before .before .before .before .kind3 .given .1 in
     rw e (r .series-band .ensures)
 
 pub series-by-spec : {M : Type 1} → statement M
@@ -89,10 +62,8 @@ series-by-spec =
     tie.close
     (tie.spec
     enum-known-kind
-    series-requires
+    series-in-requires
     enum-known-kind-2
-    series-ward-requires
-    enum-known-kind-3
     series-band-requires
     same-length
     same-length-2
@@ -105,10 +76,4 @@ series-by-spec =
     same-length-8
     same-length-9
     same-length-10
-    returns-2
-    same-length-11
-    same-length-12
-    same-length-13
-    same-length-14
-    same-length-15
-    returns-3)
+    returns-2)
