@@ -112,6 +112,12 @@ Answer least_move_pair(const Settings &settings, const Raster &first, const Rast
     return library_pair(mtb_pair, least_move_order, settings, first, second);
 }
 
+Answer band_pair(Settings settings, int band, const Raster &first, const Raster &second)
+{
+    settings.tolerance = band; // it stands in the same place of the call
+    return library_pair(mtb_pair_band, least_move_order, settings, first, second);
+}
+
 Warning quadrants(const Settings &settings, const Raster &first, const Raster &second)
 {
     uint32_t w = settings.w, h = settings.h, s = settings.s;

@@ -33,6 +33,9 @@ struct Answer {
 Answer ward_pair(const Settings &settings, const Raster &first, const Raster &second);
 Answer least_move_pair(const Settings &settings, const Raster &first, const Raster &second);
 
+// By mtb_pair_band, with that band in place of the settings' tolerance; it prefers the least move too.
+Answer band_pair(Settings settings, int band, const Raster &first, const Raster &second);
+
 // What the library tells of the four quadrants: upper left, upper right, lower left, lower right.
 struct Warning {
     std::array<Move, 4> offsets;

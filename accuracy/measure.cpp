@@ -17,14 +17,7 @@ constexpr int repeats = 2;
 constexpr int largest_move = 30;
 constexpr int margin = largest_move + 2;
 constexpr int all_noises[] = {0, 1, 2, 4};
-constexpr int all_tolerances[] = {0, 1, 2, 4, 8};
-constexpr int all_percentiles[] = {17, 50, 83};
 constexpr int least_halvings = 1, most_halvings = 6;
-
-struct Size {
-    int w, h;
-};
-constexpr Size sizes[] = {{640, 480}, {320, 240}};
 
 // What was looked at: the fields that name it in a line.
 std::string look(const SceneKind &kind, const Tone &tone, int noise)
@@ -49,7 +42,7 @@ void try_pair(const char *experiment, const std::string &look, const Settings &s
     std::printf("\n");
 }
 
-// Every tolerance and percentile on one pair. OpenCV has no percentile: its answer stands beside each of the three.
+// Every tolerance, band and percentile on one pair. OpenCV has no percentile: its answer stands beside each of the three.
 void try_settings(const std::string &look, Settings settings, const Pair &pair)
 {
     for (int tolerance : all_tolerances) {
@@ -60,6 +53,7 @@ void try_settings(const std::string &look, Settings settings, const Pair &pair)
             try_pair("pair", look, settings, pair, theirs);
         }
     }
+    try_bands(look, settings, pair);
 }
 
 // One scene under one pair of tone curves: each noise and each number of halvings has a move of its own, within reach.
@@ -106,10 +100,11 @@ void try_all(uint64_t seed)
                 for (size_t t = 0; t < tones.size(); t++)
                     try_scene(size, scene_kinds[k], tones[t], Random({seed, uint64_t(repeat), uint64_t(size.w), k, t}));
             }
-    std::fprintf(stderr, "\raccuracy: hopeless pairs, re-exposure, rotation%40s\n", "");
+    std::fprintf(stderr, "\raccuracy: hopeless pairs, cameras, re-exposure, rotation%40s\n", "");
     for (size_t k = 0; k < scene_kinds.size(); k++)
         for (size_t t = 0; t < tones.size(); t++)
             try_hopeless(scene_kinds[k], tones[t], Random({seed, k, t}));
+    try_cameras(seed);
     try_reexposure(seed);
     try_rotation(seed);
 }

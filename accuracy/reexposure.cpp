@@ -92,12 +92,27 @@ Raster mapped(const Map &map, const Raster &raster)
     return out;
 }
 
+// A line for each band and percentile: whether the answer stayed, and the offset.
+void compare_bands(const std::string &scene, int noise, const Pair &pair, const Reexposure &reexposure, const Pair &after)
+{
+    for (int band : all_bands)
+        for (int percentile : all_percentiles) {
+            Settings settings = {w, h, s, 0, percentile};
+            Answer answer = band_pair(settings, band, pair.first, pair.second);
+            Answer again = band_pair(settings, band, after.first, after.second);
+            std::printf("reexposed by band\t%s\t%s\t%d\t%d\t%d\t%d\t%d\t%d\n", scene.c_str(), reexposure.name.c_str(),
+                        merges(reexposure.first) || merges(reexposure.second), noise, band, percentile, answer == again,
+                        answer.offset == again.offset);
+        }
+}
+
 void compare(const std::string &scene, int noise, const Pair &pair, const std::vector<Reexposure> &all)
 {
     for (const Reexposure &reexposure : all) {
         Pair after = {pair.truth, mapped(reexposure.first, pair.first), mapped(reexposure.second, pair.second)};
+        compare_bands(scene, noise, pair, reexposure, after);
         for (int tolerance : {0, 1, 4})
-            for (int percentile : {17, 50, 83}) {
+            for (int percentile : all_percentiles) {
                 Settings settings = {w, h, s, tolerance, percentile};
                 Answer ward = ward_pair(settings, pair.first, pair.second);
                 Answer ward_again = ward_pair(settings, after.first, after.second);
@@ -107,11 +122,12 @@ void compare(const std::string &scene, int noise, const Pair &pair, const std::v
                 Warning warning_again = quadrants(settings, after.first, after.second);
                 Move theirs = opencv_pair(settings, pair.first, pair.second);
                 Move theirs_again = opencv_pair(settings, after.first, after.second);
-                std::printf("reexposed\t%s\t%s\t%d\t%d\t%d\t%d\t%d\t%d\t%d\t%d\t%d\t%d\t%d\n", scene.c_str(),
+                std::printf("reexposed\t%s\t%s\t%d\t%d\t%d\t%d\t%d\t%d\t%d\t%d\t%d\t%d\t%d\t%d\n", scene.c_str(),
                             reexposure.name.c_str(), merges(reexposure.first) || merges(reexposure.second), noise,
                             tolerance, percentile, ward == ward_again, least_move == least_move_again,
                             warning == warning_again, ward.offset == ward_again.offset, ward.offset == pair.truth,
-                            ward_again.offset == pair.truth, theirs == theirs_again);
+                            ward_again.offset == pair.truth, theirs == theirs_again,
+                            least_move.offset == least_move_again.offset);
             }
     }
 }

@@ -18,9 +18,11 @@ DETAILED = ("leaves", "soft hills")
 SKY = ("nebula", "nebula with stars", "dense stars", "sparse stars")
 ALIGNED = (*DETAILED, "nebula with stars", "dense stars")  # whose quadrants are mostly aligned rightly
 STARS = SKY[1:]
+STARS_ALONE = SKY[2:]
 HAZE = "flat haze"
 OVEREXPOSED = ("over", "under, over")  # tones that clip highlights; of soft hills the threshold too
 CALLS_A_PAIR = 15  # five tolerances, three percentiles
+BAND_CALLS_A_PAIR = 18  # six bands, three percentiles
 
 # Offsets: true, Ward's order (mtb_pair_ward), least move (mtb_pair), OpenCV; what was counted at Ward's and at the least
 # move's; levels has the counts of mtb_pair_ward.
@@ -28,7 +30,15 @@ Trial = collections.namedtuple("Trial", "w h scene tone noise s T P truth ward l
 # An answer's own count on the finest level, and the pixels that were compared for it.
 Counted = collections.namedtuple("Counted", "count compared")
 Reexposed = collections.namedtuple(
-    "Reexposed", "scene curve merges noise T P same same_least same_quadrants same_offset before after theirs")
+    "Reexposed",
+    "scene curve merges noise T P same same_least same_quadrants same_offset before after theirs same_least_offset")
+# A call of mtb_pair (rule T, and its tolerance) or mtb_pair_band (rule b, and its band): the offset, which both choose by the
+# least move, what was counted there, and the counts.
+Ruled = collections.namedtuple("Ruled", "w h scene tone noise s rule number P truth least at_least levels")
+RULED = ("band", "camera")  # experiments
+ZERO = "T = b = 0"  # what band 0 and tolerance 0 are called: they are the same
+# Whether the answer by such a call, and the offset, stayed as it was when the frames were re-exposed.
+Stayed = collections.namedtuple("Stayed", "curve merges rule number same same_offset")
 # A second frame that was turned, by tenths of a degree, and slid: the offsets and the warning of mtb_quadrants; levels has the
 # counts of mtb_pair on the whole frames.
 Posed = collections.namedtuple("Posed", "w h scene tone noise tenths slide offsets turned levels")
@@ -46,9 +56,22 @@ def read_posed(w, h, scene, tone, noise, tenths, dx, dy, *offsets, turned, count
                  by_level(counts))
 
 
+def read_ruled(w, h, scene, tone, noise, s, rule, *numbers, counts):
+    number, P, *numbers = map(int, numbers)
+    truth, least, at_least = zip(numbers[::2], numbers[1::2])
+    return Ruled(int(w), int(h), scene, tone, int(noise), int(s), rule, number, P, truth, least, Counted(*at_least),
+                 by_level(counts))
+
+
+def by_mtb_pair(trial):
+    """The call of mtb_pair, to stand beside those of mtb_pair_band. (Its rows are clear where those of mtb_pair_ward are.)"""
+    return Ruled(*trial[:6], "T", trial.T, trial.P, trial.truth, trial.least, trial.at_least, trial.levels)
+
+
 def read(path):
     """OpenCV's version ('' when it was not measured), each experiment's trials in order, the re-exposed pairs."""
-    opencv, trials, reexposed = "", {kind: [] for kind in ("pair", "beyond", "unrelated", *POSED)}, []
+    kinds = ("pair", "beyond", "unrelated", *POSED, *RULED, "reexposed by band")
+    opencv, trials, reexposed = "", {kind: [] for kind in kinds}, []
     for line in open(path, encoding="utf-8"):
         kind, *fields = line.rstrip("\n").split("\t")
         if kind == "opencv":
@@ -56,6 +79,11 @@ def read(path):
         elif kind in POSED:
             *fields, turned, counts = fields
             trials[kind].append(read_posed(*fields, turned=turned, counts=counts))
+        elif kind in RULED:
+            trials[kind].append(read_ruled(*fields[:-1], counts=fields[-1]))
+        elif kind == "reexposed by band":
+            _, curve, merges, _, band, _, same, same_offset = fields
+            trials[kind].append(Stayed(curve, merges == "1", "b", int(band), same == "1", same_offset == "1"))
         elif kind in trials:
             w, h, scene, tone, *numbers, counts = fields
             noise, s, T, P, *numbers = map(int, numbers)
@@ -86,6 +114,11 @@ def at_rim(trial):
 def overlap(trial, move):
     """The pixels that have a partner in the frame."""
     return (trial.w - abs(move[0])) * (trial.h - abs(move[1]))
+
+
+def insist_on_overlap(trial, move, at):
+    if not at.count <= at.compared <= overlap(trial, move):
+        sys.exit(f"accuracy: {at.count} of {at.compared} compared pixels differ, {overlap(trial, move)} overlap")
 
 
 def share(trial, counted):
@@ -138,6 +171,37 @@ WARNINGS = (
 )
 
 
+def rule_of(ruled):
+    """A column's title."""
+    return f"{ruled.rule} = {ruled.number}" if ruled.number else ZERO
+
+
+def least_right(group):
+    return sum(t.least == t.truth for t in group)
+
+
+def clear_and_right(group):
+    return sum(t.least == t.truth and clear(t) for t in group)
+
+
+def stayed_cell(group):
+    return f"{sum(t.same for t in group)} / {sum(t.same_offset for t in group)}"
+
+
+def by_pair(calls, number):
+    """The calls, that many a pair, pair by pair."""
+    return [calls[i:i + number] for i in range(0, len(calls), number)]
+
+
+def asked_row(name, asked):
+    """Of each pair's calls, in turn, the first whose rows are clear, where both orders agree: right, one off, worse, none."""
+    count = collections.Counter()
+    for calls in asked:
+        taken = next(filter(clear, calls), None)
+        count["none" if taken is None else min(2, off(taken.least, taken.truth))] += 1
+    return [name, count[0], count[1], count[2], count["none"]]
+
+
 def percent(part, whole):
     return f"{100 * part / whole:.1f}" if whole else "–"
 
@@ -184,6 +248,17 @@ FIGURES = (
     ("exact", lambda offs: offs.count(0)),
     ("at most one off", lambda offs: offs.count(0) + offs.count(1)),
     ("more than 8 off", lambda offs: sum(v > 8 for v in offs)),
+)
+TOLD_HEAD = ["calls", "clear and right", "clear, one off", "clear, worse", "unclear but right", "unclear and wrong"]
+ASKED_HEAD = ["right", "one off", "worse", "no clear answer"]
+# What may be asked of a pair, in turn: tolerances or bands, and percentiles with each.
+ASKED = (
+    ("P = 50; T = b = 0", (ZERO,), (50,)),
+    ("P = 50; T = 0, then 1, then 4", (ZERO, "T = 1", "T = 4"), (50,)),
+    ("P = 50; b = 0, then 4, then 16", (ZERO, "b = 4", "b = 16"), (50,)),
+    ("P = 50, then 17, then 83; T = b = 0", (ZERO,), (50, 17, 83)),
+    ("the three P each, T = 0, then 1, then 4", (ZERO, "T = 1", "T = 4"), (50, 17, 83)),
+    ("the three P each, b = 0, then 4, then 16", (ZERO, "b = 4", "b = 16"), (50, 17, 83)),
 )
 WEAK_HEAD = ["weak calls", *(name for name, _ in FIGURES), "offsets differ", "nearer"]
 
@@ -268,6 +343,8 @@ class Report:
         self.opencv, self.trials, self.reexposed = opencv, trials["pair"], reexposed
         self.turned, self.slid, self.slid_by_parts = (trials[kind] for kind in POSED)
         self.beyond, self.unrelated = trials["beyond"], trials["unrelated"]
+        self.ruled = [by_mtb_pair(t) for t in self.trials if 2 <= t.s <= 4] + trials["band"]
+        self.cameras, self.reexposed_by_band = trials["camera"], trials["reexposed by band"]
         self.parts = {}  # what the template's {{names}} stand for
 
     def cell(self, trials, within=0):
@@ -277,14 +354,15 @@ class Report:
         return f"{ours} / {theirs if self.opencv else '–'}"
 
     def hits(self, name, trials, row, column, head, title="{}", cell=None):
-        """A table of hits, and in {{name of}} the number of pairs a cell."""
+        """A table of hits, in {{name of}} the number of pairs a cell, and for the text each cell in {{name: row, column}}."""
         groups = collections.defaultdict(list)
         for t in trials:
-            groups[row(t), column(t)].append(t)
-        columns = values(trials, column)
-        body = [[r, *((cell or self.cell)(groups[r, c]) for c in columns)] for r in values(trials, row)]
-        self.parts[name] = markdown([head, *(title.format(c) for c in columns)], body)
+            groups[row(t), title.format(column(t))].append(t)
+        rows, columns = values(trials, row), [title.format(c) for c in values(trials, column)]
+        cells = {(r, c): (cell or self.cell)(groups[r, c]) for r in rows for c in columns}
+        self.parts[name] = markdown([head, *columns], [[r, *(cells[r, c] for c in columns)] for r in rows])
         self.parts[name + " of"] = len(next(iter(groups.values())))
+        self.parts.update({f"{name}: {r}, {c}": v for (r, c), v in cells.items()})
 
     def ours(self, trials):
         return sum(t.ward == t.truth for t in trials)
@@ -345,20 +423,19 @@ class Report:
         self.parts["ward right"] = self.ours(self.trials)
 
     @staticmethod
-    def told(trials, rule=clear):
+    def told(trials, rule=clear, answer=operator.attrgetter("ward")):
         """Calls; told clear: right, off by one, worse; told unclear: right all the same, wrong."""
-        count = collections.Counter((bool(rule(t)), min(2, off(t.ward, t.truth))) for t in trials)
+        count = collections.Counter((bool(rule(t)), min(2, off(answer(t), t.truth))) for t in trials)
         return [len(trials), count[True, 0], count[True, 1], count[True, 2], count[False, 0],
                 count[False, 1] + count[False, 2]]
 
     def rule(self):
-        head = ["calls", "clear and right", "clear, one off", "clear, worse", "unclear but right", "unclear and wrong"]
         by = lambda key: [[v, *self.told([t for t in self.trials if key(t) == v])] for v in values(self.trials, key)]
         total = self.told(self.trials)
-        self.parts["rule"] = markdown(["scene", *head], by(lambda t: t.scene) + [["**all**", *total]])
-        self.parts["rule tolerances"] = markdown(["", *head], by(lambda t: f"T = {t.T}"))
+        self.parts["rule"] = markdown(["scene", *TOLD_HEAD], by(lambda t: t.scene) + [["**all**", *total]])
+        self.parts["rule tolerances"] = markdown(["", *TOLD_HEAD], by(lambda t: f"T = {t.T}"))
         cuts = [(9, 10, "nine tenths"), (3, 4, "three quarters"), (1, 2, "half")]
-        self.parts["rule cuts"] = markdown(["at most", *head], [
+        self.parts["rule cuts"] = markdown(["at most", *TOLD_HEAD], [
             [name, *self.told(self.trials, lambda t: clear(t, a, b))] for a, b, name in cuts])
         _, right, near, far, missed, caught = total
         self.parts["rule clear"] = right + near + far
@@ -371,9 +448,8 @@ class Report:
     def shares(self):
         """The share compared at right and at wrong answers. What the definitions say of compared numbers must hold."""
         for t in self.trials + self.beyond + self.unrelated:
-            for move, at in ((t.ward, t.at_ward), (t.least, t.at_least)):
-                if not at.count <= at.compared <= overlap(t, move):
-                    sys.exit(f"accuracy: {at.count} of {at.compared} compared pixels differ, {overlap(t, move)} overlap")
+            insist_on_overlap(t, t.ward, t.at_ward)
+            insist_on_overlap(t, t.least, t.at_least)
         rows = []
         for call, answer in (("mtb_pair", lambda t: (t.least, t.at_least)), ("mtb_pair_ward", lambda t: (t.ward, t.at_ward))):
             answers = [(t, *answer(t)) for t in self.trials]
@@ -434,16 +510,11 @@ class Report:
 
     def asking_again(self):
         """The first of P = 50, 17, 83 whose rows are clear, at T = 0."""
-        rows = []
-        for name, order in (("P = 50 alone", (50,)), ("P = 50, then 17, then 83", (50, 17, 83))):
-            count = collections.Counter()
-            for i in range(0, len(self.trials), CALLS_A_PAIR):
-                pair = {t.P: t for t in self.trials[i:i + CALLS_A_PAIR] if t.T == 0}
-                taken = next((pair[P] for P in order if clear(pair[P])), None)
-                count["none" if taken is None else min(2, off(taken.ward, taken.truth))] += 1
-            rows.append([name, count[0], count[1], count[2], count["none"]])
-        self.parts["asking"] = markdown(["asked at T = 0", "right", "one off", "worse", "no clear answer"], rows)
-        self.parts["asking of"] = len(self.trials) // CALLS_A_PAIR
+        pairs = [{t.P: t for t in calls if t.T == 0} for calls in by_pair(self.trials, CALLS_A_PAIR)]
+        self.parts["asking"] = markdown(["asked at T = 0", *ASKED_HEAD], [
+            asked_row(name, ([pair[P] for P in order] for pair in pairs))
+            for name, order in (("P = 50 alone", (50,)), ("P = 50, then 17, then 83", (50, 17, 83)))])
+        self.parts["asking of"] = len(pairs)
 
     def reexposure(self):
         rows, groups = [], collections.defaultdict(list)
@@ -464,6 +535,63 @@ class Report:
         self.parts["reexposure"] = markdown(["curve", "merges values", "same at T = 0", "same at T = 1",
                                              "same at T = 4", "same offset at T = 0", "true after, T = 0",
                                              "OpenCV: same offset, T = 0"], rows)
+
+    def bands(self):
+        """Hits by band beside those by tolerance."""
+        table = lambda name, some, row, head, cell=least_right: self.hits(name, some, row, rule_of, head, "{}", cell)
+        scenes = [t for t in self.ruled if t.P == 50 and t.scene != HAZE]
+        with_sums = (scenes + [t._replace(noise="1, 2 and 4") for t in scenes if t.noise > 0]
+                     + [t._replace(noise="all") for t in scenes])
+        table("bands noises", with_sums, lambda t: t.noise, "noise")
+        table("bands clear", with_sums, lambda t: t.noise, "noise", clear_and_right)
+        table("bands scenes", scenes, lambda t: f"{t.scene}, noise {t.noise}", "scene")
+        table("bands tones", scenes, lambda t: t.tone, "tone")
+        for name, some in (("cameras detailed", DETAILED), ("cameras sky", SKY)):
+            table(name, [t for t in self.cameras if t.scene in some], lambda t: t.tone, "camera")
+        others = [t for P in (17, 83) for t in self.ruled if t.P == P and t.scene != HAZE]
+        table("bands percentiles", others, lambda t: f"{t.scene}, P = {t.P}", "scene")
+        table("bands stars", [t for t in others if t.P == 83 and t.scene in STARS_ALONE],
+              lambda t: f"{t.scene}, noise {t.noise}", "scene")
+        self.parts["bands calls"] = sum(t.rule == "b" for t in self.ruled)
+        self.parts["bands zero"] = sum(t.number == 0 for t in self.ruled)
+        self.parts["bands all of"] = sum(t.number == 0 for t in scenes)
+
+    def bands_compared(self):
+        """How often a band or a tolerance leaves out nearly all, and what the mount does on haze."""
+        for t in self.ruled + self.cameras:
+            insist_on_overlap(t, t.least, t.at_least)
+        median = [t for t in self.ruled if t.P == 50]
+        self.hits("bands few", median, lambda t: t.scene, rule_of, "scene", "{}", few)
+        self.hits("cameras few", self.cameras, lambda t: t.tone, rule_of, "camera", "{}", few)
+        self.hits("bands haze", [t for t in median if t.scene == HAZE and t.s == 4], lambda t: f"noise {t.noise}", rule_of,
+                  "flat haze", "{}", lambda group: f"{statistics.mean(size(t.least) for t in group):.1f}")
+
+    def bands_rule(self):
+        """The rule of thumb by tolerance and by band, and asking again with another."""
+        least = operator.attrgetter("least")
+        groups = {rule: [t for t in self.ruled if rule_of(t) == rule] for rule in values(self.ruled, rule_of)}
+        told = {rule: self.told(group, answer=least) for rule, group in groups.items()}
+        self.parts["bands rule"] = markdown(["", *TOLD_HEAD], [[rule, *row] for rule, row in told.items()])
+        self.parts["bands clear right"] = f"{min(100 * row[1] / sum(row[1:4]) for row in told.values()):.1f}"
+        tolerances, bands = ([t for t in self.ruled if t.rule == rule] for rule in "Tb")
+        pairs = [{(rule_of(t), t.P): t for t in by_tolerance + by_band} for by_tolerance, by_band
+                 in zip(by_pair(tolerances, CALLS_A_PAIR), by_pair(bands, BAND_CALLS_A_PAIR))]
+        self.parts["bands asking"] = markdown(["asked", *ASKED_HEAD], [
+            asked_row(name, ([pair[rule, P] for rule in rules for P in percentiles] for pair in pairs))
+            for name, rules, percentiles in ASKED])
+        self.parts["bands asking of"] = len(pairs)
+
+    def bands_reexposed(self):
+        """By mtb_pair and by mtb_pair_band. A curve that merges nothing must not change an answer by a band."""
+        for t in self.reexposed_by_band:
+            if not t.merges and not t.same:
+                sys.exit(f"accuracy: {t.curve} merges nothing, but changed an answer at b = {t.number}: the theorem says it "
+                         "cannot")
+        stayed = [Stayed(r.curve, r.merges, "T", r.T, r.same_least, r.same_least_offset) for r in self.reexposed]
+        stayed += self.reexposed_by_band
+        self.hits("bands reexposed", stayed, lambda t: t.curve, rule_of, "curve", "{}", stayed_cell)
+        self.hits("bands unmerged", [t for t in stayed if not t.merges], lambda t: "all", rule_of, "", "{}",
+                  lambda group: f"{sum(t.same for t in group)} answers and {sum(t.same_offset for t in group)} offsets")
 
     def turned_frames(self):
         """From which angle on the warning comes, with what geometry says of middles that are found exactly."""
@@ -541,7 +669,8 @@ class Report:
         self.parts["calls"] = len(self.trials)
         for part in (self.tolerances, self.halvings, self.tones, self.noises, self.percentiles, self.haze, self.weak,
                      self.rule, self.hopeless, self.asking_again, self.shares, self.warnings, self.few_or_many,
-                     self.reexposure, self.turned_frames, self.slid_frames, self.trust_in_warnings, self.examples):
+                     self.bands, self.bands_compared, self.bands_rule, self.reexposure, self.bands_reexposed,
+                     self.turned_frames, self.slid_frames, self.trust_in_warnings, self.examples):
             part()
         return self.parts
 

@@ -13,10 +13,6 @@ constexpr int largest_slide = 4, s = 3;
 constexpr int noises[] = {0, 1, 2, 4};
 constexpr double degree = 0.017453292519943295;
 
-struct Size {
-    int w, h;
-};
-
 // How the second frame was taken: turned about its centre, by tenths of a degree, and from so far on.
 struct Pose {
     double tenths, dx, dy;
@@ -138,7 +134,7 @@ void try_rotation(uint64_t seed)
 {
     constexpr uint64_t runs = 2;
     constexpr size_t unclipped = 6; // tones that clip nothing stand first
-    constexpr Size sizes[] = {{640, 480}, {320, 240}}, large = {1920, 1080};
+    constexpr Size large = {1920, 1080};
     for (uint64_t run = 0; run < runs; run++)
         for (size_t k = 0; k < scene_kinds.size(); k++)
             for (size_t t = 0; t < tones.size(); t++)
