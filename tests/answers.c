@@ -212,6 +212,11 @@ static void answer_pair_ward(const struct vector *v, struct answer *a)
     ask_pair(ref_pair_ward, v, a);
 }
 
+static void answer_pair_band(const struct vector *v, struct answer *a)
+{
+    ask_pair(ref_pair_band, v, a);
+}
+
 static void ask_series(__typeof__(ref_series) *series, const struct vector *v, struct answer *a)
 {
     int32_t *offsets = hold(a, 0, lent_offsets(v->out[0]), 4 * v->out[0], true);
@@ -232,6 +237,11 @@ static void answer_series(const struct vector *v, struct answer *a)
 static void answer_series_ward(const struct vector *v, struct answer *a)
 {
     ask_series(ref_series_ward, v, a);
+}
+
+static void answer_series_band(const struct vector *v, struct answer *a)
+{
+    ask_series(ref_series_band, v, a);
 }
 
 static void answer_quadrants(const struct vector *v, struct answer *a)
@@ -307,7 +317,9 @@ struct answer answer_of(const struct vector *v)
         [CALL_BRACKET] = answer_bracket,     [CALL_PAIR_WARD] = answer_pair_ward,
         [CALL_SERIES_WARD] = answer_series_ward, [CALL_MADE_PAIR_WARD] = answer_pair_ward,
         [CALL_MADE_SERIES_WARD] = answer_series_ward, [CALL_QUADRANTS] = answer_quadrants,
-        [CALL_MADE_QUADRANTS] = answer_quadrants,
+        [CALL_MADE_QUADRANTS] = answer_quadrants, [CALL_PAIR_BAND] = answer_pair_band,
+        [CALL_SERIES_BAND] = answer_series_band, [CALL_MADE_PAIR_BAND] = answer_pair_band,
+        [CALL_MADE_SERIES_BAND] = answer_series_band,
     };
     struct answer a = { 0 };
     answers[v->call](v, &a);

@@ -125,6 +125,12 @@ void break_tolerance(struct vector *v)
     v->tolerance = one_of(bad, COUNT_OF(bad));
 }
 
+void break_band(struct vector *v)
+{
+    static const uint32_t bad[] = { 17, 18, 64, 65, 256, 256 + 16, 65536, 0xFFFFFFFF };
+    v->tolerance = one_of(bad, COUNT_OF(bad));
+}
+
 void break_percentile(struct vector *v)
 {
     static const uint32_t bad[] = { 0, 1, 16, 18, 49, 51, 82, 84, 99, 100, 256 + 50, 65536 + 17, 0x80000053, 0xFFFFFFFF };
@@ -173,13 +179,13 @@ size_t length_of(enum fit fit, size_t needed, size_t excess)
 
 /* ---- Refusals in every order ---- */
 
-static uint32_t lowest_number(const struct breaker *breakers, int count, int mask)
+static uint32_t first_number(const struct breaker *breakers, int count, int mask)
 {
-    uint32_t lowest = 0;
+    uint32_t first = 0;
     for (int i = count - 1; i >= 0; i--)
         if (mask >> i & 1)
-            lowest = breakers[i].number;
-    return lowest;
+            first = breakers[i].number;
+    return first;
 }
 
 static void apply_breakers(struct vector *v, const struct breaker *breakers, int count, int mask, bool after)
@@ -197,6 +203,6 @@ void add_subsets(struct vector good, const struct breaker *breakers, int count, 
             apply_breakers(&v, breakers, count, mask, false);
             fit_lengths(&v);
             apply_breakers(&v, breakers, count, mask, true);
-            must(add(&v) == lowest_number(breakers, count, mask), "the lowest number that applies is given");
+            must(add(&v) == first_number(breakers, count, mask), "the first number that applies is given");
         }
 }

@@ -32,13 +32,15 @@ struct breaker {
     void (*apply)(struct vector *);
 };
 
-/* Every subset of the breakers, each some times: refusals in every order. The lowest number must be the reference's answer. */
+/* Every subset of the breakers, each some times: refusals in every order. They stand in the order in which the call tests them: the
+ * first number of a subset must be the reference's answer. */
 void add_subsets(struct vector good, const struct breaker *breakers, int count, int rounds);
 
 /* Breakers that several calls share. */
 void break_size(struct vector *v);
 void break_halvings(struct vector *v);
 void break_tolerance(struct vector *v);
+void break_band(struct vector *v);
 void break_percentile(struct vector *v);
 void break_input(struct vector *v);
 void break_output(struct vector *v);

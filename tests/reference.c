@@ -1,4 +1,4 @@
-/* Document 01 and Papers 1 to 5 of document 02, pixel by pixel. Sentences in quotation marks are the documents'. */
+/* Document 01 and Papers 1 to 6 of document 02, pixel by pixel. Sentences in quotation marks are the documents'. */
 #include "reference.h"
 
 #include <stdio.h>
@@ -8,6 +8,7 @@ enum {
     MAX_SIDE = 4096,
     MAX_HALVINGS = 8,
     MAX_TOLERANCE = 64,
+    MAX_BAND = 16,
     MAX_FRAMES = 16,
     WORD_BITS = 64,
     CANDIDATES = 9,
@@ -45,10 +46,26 @@ struct tally {
     uint32_t count, compared;
 };
 
+/* The rule that leaves pixels out: the tolerance T, or "a band b from 0 to 16 in place of T". */
+struct rule {
+    bool band;
+    uint32_t number; /* T or b */
+};
+
 /* Where "Pair and series, new order and kept, write these numbers beside the counts, in the same order". */
 struct tallies {
     uint32_t *counts, *compared;
 };
+
+static struct rule by_tolerance(uint32_t tolerance)
+{
+    return (struct rule){ false, tolerance };
+}
+
+static struct rule by_band(uint32_t band)
+{
+    return (struct rule){ true, band };
+}
 
 static void *memory(size_t bytes)
 {
@@ -126,6 +143,14 @@ static bool too_small(uint32_t w, uint32_t h, uint32_t s)
     for (uint32_t i = 0; i < s; i++)
         least *= 2;
     return w < least || h < least;
+}
+
+/* 5. The tolerance is above 64. "15, b is above 16, tested in the place of 5." */
+static uint32_t rule_refusal(struct rule rule)
+{
+    if (rule.band)
+        return rule.number > MAX_BAND ? 15 : 0;
+    return rule.number > MAX_TOLERANCE ? 5 : 0;
 }
 
 /* 8. "… or one isn't 17, 50 or 83." */
@@ -220,6 +245,12 @@ static bool exclusion_bit(uint8_t grey, uint8_t t, uint32_t tolerance)
     return (uint32_t)abs((int)grey - (int)t) > tolerance;
 }
 
+/* "Its exclusion bit is 0 where grey lies between the thresholds for percentiles P−b and P+b, both included". */
+static bool band_bit(uint8_t grey, uint8_t lower, uint8_t upper)
+{
+    return !(lower <= grey && grey <= upper);
+}
+
 /* ---- Bitmaps ---- */
 
 /* "Pixel x is bit x mod 64 (bit 0 the lowest) of word floor(x/64)." */
@@ -259,13 +290,32 @@ static void free_bits(struct bits bits)
     free(bits.exclusion);
 }
 
-static struct bits bits_of_frame(const struct frame *frame, uint8_t t, uint32_t tolerance)
+static void exclude_by_tolerance(const struct frame *frame, uint8_t t, uint32_t tolerance, uint8_t *exclusion)
+{
+    for (size_t i = 0; i < pixels(frame->w, frame->h); i++)
+        exclusion[i] = exclusion_bit(frame->grey[i], t, tolerance);
+}
+
+/* The frame's own thresholds, "at each level". */
+static void exclude_by_band(const struct frame *frame, uint32_t percentile, uint32_t band, uint8_t *exclusion)
+{
+    size_t count = pixels(frame->w, frame->h);
+    uint8_t lower = threshold_of(frame->grey, count, percentile - band);
+    uint8_t upper = threshold_of(frame->grey, count, percentile + band);
+    for (size_t i = 0; i < count; i++)
+        exclusion[i] = band_bit(frame->grey[i], lower, upper);
+}
+
+/* t is the threshold for the percentile. */
+static struct bits bits_of_frame(const struct frame *frame, uint8_t t, uint32_t percentile, struct rule rule)
 {
     struct bits bits = new_bits(frame->w, frame->h);
-    for (size_t i = 0; i < pixels(frame->w, frame->h); i++) {
+    for (size_t i = 0; i < pixels(frame->w, frame->h); i++)
         bits.threshold[i] = threshold_bit(frame->grey[i], t);
-        bits.exclusion[i] = exclusion_bit(frame->grey[i], t, tolerance);
-    }
+    if (rule.band)
+        exclude_by_band(frame, percentile, rule.number, bits.exclusion);
+    else
+        exclude_by_tolerance(frame, t, rule.number, bits.exclusion);
     return bits;
 }
 
@@ -366,11 +416,11 @@ static struct offset first_least(const uint32_t *counts, struct offset centre, c
 
 /* "Each level takes its threshold afresh, both frames with the same P." */
 static struct offset settle_level(const struct offset order[CANDIDATES], const struct frame *first, const struct frame *second,
-                                  struct offset centre, uint32_t tolerance, uint32_t percentile, struct tallies to)
+                                  struct offset centre, struct rule rule, uint32_t percentile, struct tallies to)
 {
     size_t count = pixels(first->w, first->h);
-    struct bits bits1 = bits_of_frame(first, threshold_of(first->grey, count, percentile), tolerance);
-    struct bits bits2 = bits_of_frame(second, threshold_of(second->grey, count, percentile), tolerance);
+    struct bits bits1 = bits_of_frame(first, threshold_of(first->grey, count, percentile), percentile, rule);
+    struct bits bits2 = bits_of_frame(second, threshold_of(second->grey, count, percentile), percentile, rule);
     tally_candidates(&bits1, &bits2, centre, to);
     free_bits(bits1);
     free_bits(bits2);
@@ -387,17 +437,17 @@ static struct frame halved(const struct frame *frame)
 /* "A level's answer rests on that of the next coarser one, doubled; below the coarsest it is (0,0)." Counts: "coarsest level
  * first". */
 static struct offset align(const struct offset order[CANDIDATES], const struct frame *first, const struct frame *second,
-                           uint32_t s, uint32_t tolerance, uint32_t percentile, struct tallies to)
+                           uint32_t s, struct rule rule, uint32_t percentile, struct tallies to)
 {
     struct offset centre = { 0, 0 };
     if (s > 0) {
         struct frame half1 = halved(first), half2 = halved(second);
-        struct offset coarser = align(order, &half1, &half2, s - 1, tolerance, percentile, to);
+        struct offset coarser = align(order, &half1, &half2, s - 1, rule, percentile, to);
         centre = (struct offset){ 2 * coarser.dx, 2 * coarser.dy };
         free(half1.grey);
         free(half2.grey);
     }
-    return settle_level(order, first, second, centre, tolerance, percentile, tallies_from(to, (size_t)CANDIDATES * s));
+    return settle_level(order, first, second, centre, rule, percentile, tallies_from(to, (size_t)CANDIDATES * s));
 }
 
 static struct frame frame_of_raster(uint32_t w, uint32_t h, const uint8_t *raster)
@@ -408,11 +458,11 @@ static struct frame frame_of_raster(uint32_t w, uint32_t h, const uint8_t *raste
 }
 
 static struct offset align_rasters(const struct offset order[CANDIDATES], uint32_t w, uint32_t h, uint32_t s,
-                                   uint32_t tolerance, uint32_t percentile, const uint8_t *first, const uint8_t *second,
+                                   struct rule rule, uint32_t percentile, const uint8_t *first, const uint8_t *second,
                                    struct tallies to)
 {
     struct frame frame1 = frame_of_raster(w, h, first), frame2 = frame_of_raster(w, h, second);
-    struct offset found = align(order, &frame1, &frame2, s, tolerance, percentile, to);
+    struct offset found = align(order, &frame1, &frame2, s, rule, percentile, to);
     free(frame1.grey);
     free(frame2.grey);
     return found;
@@ -421,12 +471,12 @@ static struct offset align_rasters(const struct offset order[CANDIDATES], uint32
 /* ---- Series ---- */
 
 /* "Pair j is frames j−1 and j, with offset d(j)"; "counts run pair 1 first". */
-static void align_pairs(const struct offset order[CANDIDATES], uint32_t w, uint32_t h, uint32_t s, uint32_t tolerance,
+static void align_pairs(const struct offset order[CANDIDATES], uint32_t w, uint32_t h, uint32_t s, struct rule rule,
                         uint32_t n, const uint32_t *percentiles, const uint8_t *rasters, struct offset d[MAX_FRAMES],
                         struct tallies to)
 {
     for (uint32_t j = 1; j < n; j++)
-        d[j] = align_rasters(order, w, h, s, tolerance, percentiles[j - 1], rasters + (j - 1) * raster_bytes(w, h),
+        d[j] = align_rasters(order, w, h, s, rule, percentiles[j - 1], rasters + (j - 1) * raster_bytes(w, h),
                              rasters + j * raster_bytes(w, h), tallies_from(to, (j - 1) * pair_counts(s)));
 }
 
@@ -471,7 +521,7 @@ static struct offset quadrant_offset(uint32_t w, uint32_t h, uint32_t s, uint32_
 {
     uint32_t counts[MOST_COUNTS], compared[MOST_COUNTS];
     uint8_t *crop1 = cropped(w, h, quadrant, first), *crop2 = cropped(w, h, quadrant, second);
-    struct offset found = align_rasters(least_move, w / 2, h / 2, s, tolerance, percentile, crop1, crop2,
+    struct offset found = align_rasters(least_move, w / 2, h / 2, s, by_tolerance(tolerance), percentile, crop1, crop2,
                                         (struct tallies){ counts, compared });
     free(crop1);
     free(crop2);
@@ -608,8 +658,8 @@ uint32_t ref_difference(uint32_t w, uint32_t h, int32_t dx, int32_t dy, const ui
 
 /* ---- The calls that align ---- */
 
-/* 2 to 5, which pair and series share. */
-static uint32_t settings_refusal(uint32_t w, uint32_t h, uint32_t s, uint32_t tolerance)
+/* 2 to 5, which pair and series share, or 15 in the place of 5. */
+static uint32_t settings_refusal(uint32_t w, uint32_t h, uint32_t s, struct rule rule)
 {
     if (bad_size(w, h))
         return 2;
@@ -617,17 +667,15 @@ static uint32_t settings_refusal(uint32_t w, uint32_t h, uint32_t s, uint32_t to
         return 3;
     if (too_small(w, h, s))
         return 4;
-    if (tolerance > MAX_TOLERANCE)
-        return 5;
-    return 0;
+    return rule_refusal(rule);
 }
 
-static uint32_t pair_by(const struct offset order[CANDIDATES], uint32_t w, uint32_t h, uint32_t s, uint32_t tolerance,
+static uint32_t pair_by(const struct offset order[CANDIDATES], uint32_t w, uint32_t h, uint32_t s, struct rule rule,
                         uint32_t percentile, const uint8_t *first, size_t first_len, const uint8_t *second,
                         size_t second_len, int32_t *dx, int32_t *dy, uint32_t *counts, size_t counts_len,
                         uint32_t *compared, size_t compared_len, size_t grey_len, size_t words_len)
 {
-    uint32_t refusal = settings_refusal(w, h, s, tolerance);
+    uint32_t refusal = settings_refusal(w, h, s, rule);
     if (refusal)
         return refusal;
     if (bad_percentile(percentile))
@@ -639,7 +687,7 @@ static uint32_t pair_by(const struct offset order[CANDIDATES], uint32_t w, uint3
     if (short_memory(w, h, s, grey_len, words_len))
         return 11;
     struct tallies to = { counts, compared };
-    struct offset found = align_rasters(order, w, h, s, tolerance, percentile, first, second, to);
+    struct offset found = align_rasters(order, w, h, s, rule, percentile, first, second, to);
     *dx = (int32_t)found.dx;
     *dy = (int32_t)found.dy;
     return 0;
@@ -652,8 +700,8 @@ uint32_t ref_pair(uint32_t w, uint32_t h, uint32_t s, uint32_t tolerance, uint32
 {
     (void)grey;
     (void)words;
-    return pair_by(least_move, w, h, s, tolerance, percentile, first, first_len, second, second_len, dx, dy, counts,
-                   counts_len, compared, compared_len, grey_len, words_len);
+    return pair_by(least_move, w, h, s, by_tolerance(tolerance), percentile, first, first_len, second, second_len, dx, dy,
+                   counts, counts_len, compared, compared_len, grey_len, words_len);
 }
 
 /* "a second pair of calls keeps it": Ward's order. */
@@ -664,16 +712,28 @@ uint32_t ref_pair_ward(uint32_t w, uint32_t h, uint32_t s, uint32_t tolerance, u
 {
     (void)grey;
     (void)words;
-    return pair_by(wards_order, w, h, s, tolerance, percentile, first, first_len, second, second_len, dx, dy, counts,
-                   counts_len, compared, compared_len, grey_len, words_len);
+    return pair_by(wards_order, w, h, s, by_tolerance(tolerance), percentile, first, first_len, second, second_len, dx, dy,
+                   counts, counts_len, compared, compared_len, grey_len, words_len);
 }
 
-static uint32_t series_refusal(uint32_t w, uint32_t h, uint32_t s, uint32_t tolerance, uint32_t n, uint32_t r,
+/* "Add an alignment, pair and series, with a band": in the new order. */
+uint32_t ref_pair_band(uint32_t w, uint32_t h, uint32_t s, uint32_t band, uint32_t percentile, const uint8_t *first,
+                       size_t first_len, const uint8_t *second, size_t second_len, int32_t *dx, int32_t *dy,
+                       uint32_t *counts, size_t counts_len, uint32_t *compared, size_t compared_len, uint8_t *grey,
+                       size_t grey_len, uint64_t *words, size_t words_len)
+{
+    (void)grey;
+    (void)words;
+    return pair_by(least_move, w, h, s, by_band(band), percentile, first, first_len, second, second_len, dx, dy,
+                   counts, counts_len, compared, compared_len, grey_len, words_len);
+}
+
+static uint32_t series_refusal(uint32_t w, uint32_t h, uint32_t s, struct rule rule, uint32_t n, uint32_t r,
                                const uint32_t *percentiles, size_t percentiles_len, size_t rasters_len,
                                size_t offsets_len, size_t counts_len, size_t compared_len, size_t grey_len,
                                size_t words_len)
 {
-    uint32_t refusal = settings_refusal(w, h, s, tolerance);
+    uint32_t refusal = settings_refusal(w, h, s, rule);
     if (refusal)
         return refusal;
     if (n == 0 || n > MAX_FRAMES)
@@ -692,18 +752,18 @@ static uint32_t series_refusal(uint32_t w, uint32_t h, uint32_t s, uint32_t tole
     return 0;
 }
 
-static uint32_t series_by(const struct offset order[CANDIDATES], uint32_t w, uint32_t h, uint32_t s, uint32_t tolerance,
+static uint32_t series_by(const struct offset order[CANDIDATES], uint32_t w, uint32_t h, uint32_t s, struct rule rule,
                           uint32_t n, uint32_t r, const uint32_t *percentiles, size_t percentiles_len,
                           const uint8_t *rasters, size_t rasters_len, int32_t *offsets, size_t offsets_len,
                           uint32_t *counts, size_t counts_len, uint32_t *compared, size_t compared_len, size_t grey_len,
                           size_t words_len)
 {
-    uint32_t refusal = series_refusal(w, h, s, tolerance, n, r, percentiles, percentiles_len, rasters_len, offsets_len,
+    uint32_t refusal = series_refusal(w, h, s, rule, n, r, percentiles, percentiles_len, rasters_len, offsets_len,
                                       counts_len, compared_len, grey_len, words_len);
     if (refusal)
         return refusal;
     struct offset d[MAX_FRAMES];
-    align_pairs(order, w, h, s, tolerance, n, percentiles, rasters, d, (struct tallies){ counts, compared });
+    align_pairs(order, w, h, s, rule, n, percentiles, rasters, d, (struct tallies){ counts, compared });
     for (uint32_t k = 0; k < n; k++) {
         struct offset offset = frame_offset(d, r, k);
         offsets[2 * k] = (int32_t)offset.dx;
@@ -719,8 +779,8 @@ uint32_t ref_series(uint32_t w, uint32_t h, uint32_t s, uint32_t tolerance, uint
 {
     (void)grey;
     (void)words;
-    return series_by(least_move, w, h, s, tolerance, n, r, percentiles, percentiles_len, rasters, rasters_len, offsets,
-                     offsets_len, counts, counts_len, compared, compared_len, grey_len, words_len);
+    return series_by(least_move, w, h, s, by_tolerance(tolerance), n, r, percentiles, percentiles_len, rasters, rasters_len,
+                     offsets, offsets_len, counts, counts_len, compared, compared_len, grey_len, words_len);
 }
 
 uint32_t ref_series_ward(uint32_t w, uint32_t h, uint32_t s, uint32_t tolerance, uint32_t n, uint32_t r,
@@ -730,7 +790,18 @@ uint32_t ref_series_ward(uint32_t w, uint32_t h, uint32_t s, uint32_t tolerance,
 {
     (void)grey;
     (void)words;
-    return series_by(wards_order, w, h, s, tolerance, n, r, percentiles, percentiles_len, rasters, rasters_len, offsets,
+    return series_by(wards_order, w, h, s, by_tolerance(tolerance), n, r, percentiles, percentiles_len, rasters, rasters_len,
+                     offsets, offsets_len, counts, counts_len, compared, compared_len, grey_len, words_len);
+}
+
+uint32_t ref_series_band(uint32_t w, uint32_t h, uint32_t s, uint32_t band, uint32_t n, uint32_t r,
+                         const uint32_t *percentiles, size_t percentiles_len, const uint8_t *rasters, size_t rasters_len,
+                         int32_t *offsets, size_t offsets_len, uint32_t *counts, size_t counts_len, uint32_t *compared,
+                         size_t compared_len, uint8_t *grey, size_t grey_len, uint64_t *words, size_t words_len)
+{
+    (void)grey;
+    (void)words;
+    return series_by(least_move, w, h, s, by_band(band), n, r, percentiles, percentiles_len, rasters, rasters_len, offsets,
                      offsets_len, counts, counts_len, compared, compared_len, grey_len, words_len);
 }
 
@@ -777,12 +848,12 @@ uint32_t ref_quadrants(uint32_t w, uint32_t h, uint32_t s, uint32_t tolerance, u
 
 size_t ref_grey_needed(uint32_t w, uint32_t h, uint32_t s)
 {
-    return settings_refusal(w, h, s, 0) ? 0 : grey_memory(w, h, s);
+    return settings_refusal(w, h, s, by_tolerance(0)) ? 0 : grey_memory(w, h, s);
 }
 
 size_t ref_words_needed(uint32_t w, uint32_t h, uint32_t s)
 {
-    return settings_refusal(w, h, s, 0) ? 0 : word_memory(w, h);
+    return settings_refusal(w, h, s, by_tolerance(0)) ? 0 : word_memory(w, h);
 }
 
 /* ---- Text ---- */
@@ -1047,7 +1118,7 @@ static struct picture read_picture(const uint8_t *file, size_t file_len)
 static uint32_t align_pictures(struct settings set, const struct picture *first, const struct picture *second, int32_t *dx,
                                int32_t *dy, uint32_t counts[BRACKET_COUNTS])
 {
-    uint32_t lower = settings_refusal(first->w, first->h, set.s, set.tolerance);
+    uint32_t lower = settings_refusal(first->w, first->h, set.s, by_tolerance(set.tolerance));
     if (lower)
         return lower;
     if (bad_percentile(set.percentile))

@@ -1,4 +1,4 @@
-/* An independent implementation of document 01 and document 02, Papers 1 to 5, written straight from their text, pixel by pixel.
+/* An independent implementation of document 01 and document 02, Papers 1 to 6, written straight from their text, pixel by pixel.
  *
  * It shares no code with the library and is meant to be read beside the documents: bitmaps are read and written a bit at a
  * time, differences are counted over single pixels, a threshold is found by counting, and speed does not matter.
@@ -52,6 +52,18 @@ uint32_t ref_pair_ward(uint32_t w, uint32_t h, uint32_t s, uint32_t tolerance, u
                        size_t grey_len, uint64_t *words, size_t words_len);
 
 uint32_t ref_series_ward(uint32_t w, uint32_t h, uint32_t s, uint32_t tolerance, uint32_t n, uint32_t r,
+                         const uint32_t *percentiles, size_t percentiles_len, const uint8_t *rasters, size_t rasters_len,
+                         int32_t *offsets, size_t offsets_len, uint32_t *counts, size_t counts_len, uint32_t *compared,
+                         size_t compared_len, uint8_t *grey, size_t grey_len, uint64_t *words, size_t words_len);
+
+/* With a noise band by rank in place of the tolerance: the grey values from the threshold for percentile − band to that for
+ * percentile + band are left out. By the least move. */
+uint32_t ref_pair_band(uint32_t w, uint32_t h, uint32_t s, uint32_t band, uint32_t percentile, const uint8_t *first,
+                       size_t first_len, const uint8_t *second, size_t second_len, int32_t *dx, int32_t *dy,
+                       uint32_t *counts, size_t counts_len, uint32_t *compared, size_t compared_len, uint8_t *grey,
+                       size_t grey_len, uint64_t *words, size_t words_len);
+
+uint32_t ref_series_band(uint32_t w, uint32_t h, uint32_t s, uint32_t band, uint32_t n, uint32_t r,
                          const uint32_t *percentiles, size_t percentiles_len, const uint8_t *rasters, size_t rasters_len,
                          int32_t *offsets, size_t offsets_len, uint32_t *counts, size_t counts_len, uint32_t *compared,
                          size_t compared_len, uint8_t *grey, size_t grey_len, uint64_t *words, size_t words_len);

@@ -1,6 +1,6 @@
 /* The reference itself against what documents 01 and 02 print: their worked examples, also those that the library proves, and the
- * table of numbers; and a tie, compared numbers, comments and quadrants worked by hand. Prints what it compared; exit status 1 when
- * something differs. */
+ * table of numbers; and a tie, compared numbers, bands, comments and quadrants worked by hand. Prints what it compared; exit status 1
+ * when something differs. */
 #include "reference.h"
 
 #include <stdio.h>
@@ -85,7 +85,7 @@ static void check_printed(const char *what, const uint8_t first_tones[3])
 
 enum { MOST_PIXELS = 256, MOST_COUNTS = 27, AMPLE = 1000 };
 
-/* Two square frames, one raster after another, and the counts and compared numbers of their pair at T = 0, P = 50. */
+/* Two square frames, one raster after another, and the counts and compared numbers of their pair at T = 0 or b = 0, P = 50. */
 struct square {
     uint32_t side, s, counts[MOST_COUNTS], compared[MOST_COUNTS];
     uint8_t rasters[2 * 3 * MOST_PIXELS];
@@ -122,9 +122,11 @@ static bool series_gives(__typeof__(ref_series) *series, const struct square *sq
            right_numbers(square, counts, compared);
 }
 
+/* "With b=0 it equals T=0." */
 static void expect_least_move(const char *what, const struct square *square, int32_t dx, int32_t dy)
 {
     expect(what, pair_gives(ref_pair, square, dx, dy) && series_gives(ref_series, square, dx, dy));
+    expect(what, pair_gives(ref_pair_band, square, dx, dy) && series_gives(ref_series_band, square, dx, dy));
 }
 
 static void expect_kept(const char *what, const struct square *square, int32_t dx, int32_t dy)
@@ -291,6 +293,90 @@ static void check_compared_lengths(void)
     expect("eight compared numbers refused by 10", lengths_number(9, 8) == 10);
     expect("eight counts refused by 10", lengths_number(8, 9) == 10);
     expect("eight of both refused by 10", lengths_number(8, 8) == 10);
+}
+
+/* ---- Bands ---- */
+
+enum { RANKED_SIDE = 20, RANKED_BYTES = 3 * RANKED_SIDE * RANKED_SIDE, WHITE = 255 };
+
+/* A frame of 20 by 20. Of each square of four pixels the upper two have the tone of one of a hundred ranks, the lower two are white. So
+ * halved it has every rank once. */
+static void ranked(uint8_t darkest, uint8_t step, uint8_t raster[RANKED_BYTES])
+{
+    for (uint32_t i = 0; i < RANKED_SIDE * RANKED_SIDE; i++) {
+        uint32_t x = i % RANKED_SIDE, y = i / RANKED_SIDE, rank = (10 * (y / 2) + x / 2) * 37 % 100;
+        memset(raster + 3 * i, y % 2 ? WHITE : darkest + step * rank, 3);
+    }
+}
+
+/* How many pixels of the finest level are left out. Each rank has 2 of 400, 4 a percent: the threshold for p is that of rank 2p - 1,
+ * above 50 white, which has 200. At 17 the ends are the ranks 33 - 2b and 33 + 2b, at 50 rank 99 - 2b and, but for b = 0, white; at
+ * 83 both are white. */
+static uint32_t left_out(uint32_t percentile, uint32_t band)
+{
+    return percentile == 17 ? 2 * (4 * band + 1) : percentile == 50 ? 2 * (2 * band + 1) + (band > 0 ? 200 : 0) : 200;
+}
+
+/* Two frames of the same ranks in other tones: with every band none of those that lie on each other at (0,0) differs. Halved, each
+ * rank has one of 100: of the percentiles P-b to P+b 2b + 1 are left out. */
+static bool band_gives(uint32_t percentile, uint32_t band)
+{
+    uint8_t rasters[2 * RANKED_BYTES];
+    uint32_t counts[18], compared[18], counts2[18], compared2[18];
+    int32_t dx = 9, dy = 9, offsets[4];
+    ranked(10, 2, rasters);
+    ranked(100, 1, rasters + RANKED_BYTES);
+    uint32_t pair = ref_pair_band(RANKED_SIDE, RANKED_SIDE, 1, band, percentile, rasters, RANKED_BYTES, rasters + RANKED_BYTES,
+                                  RANKED_BYTES, &dx, &dy, counts, 18, compared, 18, NULL, AMPLE, NULL, AMPLE);
+    uint32_t series = ref_series_band(RANKED_SIDE, RANKED_SIDE, 1, band, 2, 1, &percentile, 1, rasters, 2 * RANKED_BYTES, offsets, 4,
+                                      counts2, 18, compared2, 18, NULL, AMPLE, NULL, AMPLE);
+    bool same = memcmp(counts, counts2, sizeof counts) == 0 && memcmp(compared, compared2, sizeof compared) == 0;
+    return pair == 0 && series == 0 && same && dx == 0 && dy == 0 && counts[4] == 0 && compared[4] == 100 - (2 * band + 1) &&
+           counts[13] == 0 && compared[13] == 400 - left_out(percentile, band);
+}
+
+/* "where grey lies between the thresholds for percentiles P−b and P+b, both included, at each level" */
+static void check_bands(void)
+{
+    bool at_17 = true, at_50 = true, at_83 = true;
+    for (uint32_t band = 0; band <= 16; band++) {
+        at_17 = at_17 && band_gives(17, band);
+        at_50 = at_50 && band_gives(50, band);
+        at_83 = at_83 && band_gives(83, band);
+    }
+    expect("every band at P = 17: percentiles 1 to 33", at_17);
+    expect("every band at P = 50: percentiles 34 to 66", at_50);
+    expect("every band at P = 83: percentiles 67 to 99", at_83);
+}
+
+/* The number of a pair and of a series of n frames with a band; their lengths are right. */
+static uint32_t band_number(uint32_t side, uint32_t s, uint32_t band, uint32_t percentile, uint32_t n)
+{
+    static uint8_t rasters[17 * 3 * 16];
+    uint32_t percentiles[16], counts[144], compared[144];
+    int32_t dx, dy, offsets[34];
+    size_t bytes = (size_t)3 * side * side;
+    for (int i = 0; i < 16; i++)
+        percentiles[i] = percentile;
+    uint32_t pair = ref_pair_band(side, side, s, band, percentile, rasters, bytes, rasters, bytes, &dx, &dy, counts, 144, compared,
+                                  144, NULL, AMPLE, NULL, AMPLE);
+    uint32_t series = ref_series_band(side, side, s, band, n, 0, percentiles, n - 1, rasters, n * bytes, offsets, 34, counts, 144,
+                                      compared, 144, NULL, AMPLE, NULL, AMPLE);
+    expect("pair and series refuse alike, but for 6", pair == series || (pair == 0 && series == 6));
+    return series;
+}
+
+/* "15, b is above 16, tested in the place of 5." */
+static void check_band_limits(void)
+{
+    expect("b = 16 accepted", band_number(4, 0, 16, 17, 2) == 0 && band_number(4, 0, 16, 83, 16) == 0);
+    expect("b = 17 refused by 15", band_number(4, 0, 17, 50, 2) == 15);
+    expect("any greater b refused by 15", band_number(4, 0, 64, 50, 2) == 15 && band_number(4, 0, UINT32_MAX, 50, 2) == 15);
+    expect("15 after 2", band_number(0, 0, 17, 50, 2) == 2);
+    expect("15 after 3", band_number(4, 9, 17, 50, 2) == 3);
+    expect("15 after 4", band_number(3, 0, 17, 50, 2) == 4);
+    expect("15 before 6", band_number(4, 0, 17, 50, 17) == 15 && band_number(4, 0, 16, 50, 17) == 6);
+    expect("15 before 8", band_number(4, 0, 17, 49, 2) == 15 && band_number(4, 0, 16, 49, 2) == 8);
 }
 
 /* ---- Comments ---- */
@@ -514,6 +600,8 @@ int main(void)
     check_shifts();
     check_compared();
     check_compared_lengths();
+    check_bands();
+    check_band_limits();
     check_comments();
     check_no_comments();
     check_cut_comments();

@@ -93,12 +93,14 @@ static uint32_t keep_lent_words(size_t count)
 
 bool is_pair(enum call call)
 {
-    return call == CALL_PAIR || call == CALL_MADE_PAIR || call == CALL_PAIR_WARD || call == CALL_MADE_PAIR_WARD;
+    return call == CALL_PAIR || call == CALL_MADE_PAIR || call == CALL_PAIR_WARD || call == CALL_MADE_PAIR_WARD ||
+           call == CALL_PAIR_BAND || call == CALL_MADE_PAIR_BAND;
 }
 
 bool is_series(enum call call)
 {
-    return call == CALL_SERIES || call == CALL_MADE_SERIES || call == CALL_SERIES_WARD || call == CALL_MADE_SERIES_WARD;
+    return call == CALL_SERIES || call == CALL_MADE_SERIES || call == CALL_SERIES_WARD || call == CALL_MADE_SERIES_WARD ||
+           call == CALL_SERIES_BAND || call == CALL_MADE_SERIES_BAND;
 }
 
 bool is_quadrants(enum call call)
@@ -109,7 +111,7 @@ bool is_quadrants(enum call call)
 bool is_made(enum call call)
 {
     return call == CALL_MADE_PAIR || call == CALL_MADE_SERIES || call == CALL_MADE_PAIR_WARD || call == CALL_MADE_SERIES_WARD ||
-           call == CALL_MADE_QUADRANTS;
+           call == CALL_MADE_QUADRANTS || call == CALL_MADE_PAIR_BAND || call == CALL_MADE_SERIES_BAND;
 }
 
 bool takes_two(enum call call)

@@ -31,9 +31,13 @@ enum call {
     CALL_MADE_SERIES_WARD,
     CALL_QUADRANTS,
     CALL_MADE_QUADRANTS,
+    CALL_PAIR_BAND,
+    CALL_SERIES_BAND,
+    CALL_MADE_PAIR_BAND,
+    CALL_MADE_SERIES_BAND,
 };
 
-/* In either order; pairs, series and quadrants of stored frames or made ones. */
+/* In either order, or with a band; pairs, series and quadrants of stored frames or made ones. */
 bool is_pair(enum call call);
 bool is_series(enum call call);
 bool is_quadrants(enum call call);
@@ -48,7 +52,7 @@ enum field {
     FIELD_W,
     FIELD_H,
     FIELD_S,
-    FIELD_TOLERANCE,
+    FIELD_TOLERANCE,          /* or the band */
     FIELD_PERCENTILE,
     FIELD_N,
     FIELD_R,
@@ -71,7 +75,8 @@ struct slice {
 
 enum { MOST_OUTPUTS = 3, MOST_VALUES = 4 };
 
-/* A call, with fields as in a record. Frames made by a formula also have all made bytes, their rows a frame and the scene. */
+/* A call, with fields as in a record; the tolerance is the band of the calls that have one. Frames made by a formula also have all
+ * made bytes, their rows a frame and the scene. */
 struct vector {
     enum call call;
     uint32_t w, h, s, tolerance, percentile, n, r;

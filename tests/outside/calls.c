@@ -264,35 +264,45 @@ ASK(ask_difference)
     return l->difference(n->w, n->h, n->dx, n->dy, SLICE(0), SLICE(1), SLICE(2), SLICE(3), a[4].at, a[5].at);
 }
 
-static uint32_t ask_pair_of(__typeof__(mtb_pair) *pair, const struct numbers *n, const struct lent *a)
+/* `left_out` is the tolerance or the band. */
+static uint32_t ask_pair_of(__typeof__(mtb_pair) *pair, uint32_t left_out, const struct numbers *n, const struct lent *a)
 {
-    return pair(n->w, n->h, n->s, n->tolerance, n->percentile, SLICE(0), SLICE(1), a[2].at, a[3].at, SLICE(4), SLICE(5), SLICE(6),
-                SLICE(7));
+    return pair(n->w, n->h, n->s, left_out, n->percentile, SLICE(0), SLICE(1), a[2].at, a[3].at, SLICE(4), SLICE(5), SLICE(6), SLICE(7));
 }
 
 ASK(ask_pair)
 {
-    return ask_pair_of(l->pair, n, a);
+    return ask_pair_of(l->pair, n->tolerance, n, a);
 }
 
 ASK(ask_pair_ward)
 {
-    return ask_pair_of(l->pair_ward, n, a);
+    return ask_pair_of(l->pair_ward, n->tolerance, n, a);
 }
 
-static uint32_t ask_series_of(__typeof__(mtb_series) *series, const struct numbers *n, const struct lent *a)
+ASK(ask_pair_band)
 {
-    return series(n->w, n->h, n->s, n->tolerance, n->n, n->r, SLICE(0), SLICE(1), SLICE(2), SLICE(3), SLICE(4), SLICE(5), SLICE(6));
+    return ask_pair_of(l->pair_band, n->band, n, a);
+}
+
+static uint32_t ask_series_of(__typeof__(mtb_series) *series, uint32_t left_out, const struct numbers *n, const struct lent *a)
+{
+    return series(n->w, n->h, n->s, left_out, n->n, n->r, SLICE(0), SLICE(1), SLICE(2), SLICE(3), SLICE(4), SLICE(5), SLICE(6));
 }
 
 ASK(ask_series)
 {
-    return ask_series_of(l->series, n, a);
+    return ask_series_of(l->series, n->tolerance, n, a);
 }
 
 ASK(ask_series_ward)
 {
-    return ask_series_of(l->series_ward, n, a);
+    return ask_series_of(l->series_ward, n->tolerance, n, a);
+}
+
+ASK(ask_series_band)
+{
+    return ask_series_of(l->series_band, n->band, n, a);
 }
 
 ASK(ask_quadrants)
@@ -358,6 +368,8 @@ const struct call calls[] = {
     { "mtb_series", WANTED, series_slices, ask_series, { 2, 3, 4, 5, 6, 7, 8, 9, 10, 11 } },
     { "mtb_pair_ward", WANTED, pair_slices, ask_pair_ward, { 2, 3, 4, 5, 8, 9, 10, 11 } },
     { "mtb_series_ward", WANTED, series_slices, ask_series_ward, { 2, 3, 4, 5, 6, 7, 8, 9, 10, 11 } },
+    { "mtb_pair_band", WANTED, pair_slices, ask_pair_band, { 2, 3, 4, 15, 8, 9, 10, 11 } },
+    { "mtb_series_band", WANTED, series_slices, ask_series_band, { 2, 3, 4, 15, 6, 7, 8, 9, 10, 11 } },
     { "mtb_quadrants", WANTED, quadrants_slices, ask_quadrants, { 2, 3, 4, 5, 8, 9, 10, 11 } },
     { "mtb_p6_size", CHANCE, p6_size_slices, ask_p6_size, { 1, 2, 9 } },
     { "mtb_p6_raster", CHANCE, p6_raster_slices, ask_p6_raster, { 1, 2, 9 } },

@@ -14,21 +14,33 @@ static uint64_t bytes_compared;
 
 static const struct library library = {
     mtb_grey, mtb_halve, mtb_threshold, mtb_bitmaps, mtb_shift, mtb_total, mtb_difference, mtb_pair, mtb_series, mtb_pair_ward,
-    mtb_series_ward, mtb_quadrants, mtb_p6_size, mtb_p6_raster, mtb_p6_write, mtb_common_area, mtb_moved, mtb_blink_row,
-    mtb_grey_needed, mtb_words_needed,
+    mtb_series_ward, mtb_pair_band, mtb_series_band, mtb_quadrants, mtb_p6_size, mtb_p6_raster, mtb_p6_write, mtb_common_area,
+    mtb_moved, mtb_blink_row, mtb_grey_needed, mtb_words_needed,
 };
 
 static const struct library reference = {
     ref_grey, ref_halve, ref_threshold, ref_bitmaps, ref_shift, ref_total, ref_difference, ref_pair, ref_series, ref_pair_ward,
-    ref_series_ward, ref_quadrants, ref_p6_size, ref_p6_raster, ref_p6_write, ref_common_area, ref_moved, ref_blink_row,
-    ref_grey_needed, ref_words_needed,
+    ref_series_ward, ref_pair_band, ref_series_band, ref_quadrants, ref_p6_size, ref_p6_raster, ref_p6_write, ref_common_area,
+    ref_moved, ref_blink_row, ref_grey_needed, ref_words_needed,
+};
+
+/* Takes the band for a tolerance. */
+static const struct library tolerance = { .pair_band = mtb_pair, .series_band = mtb_series };
+
+static const struct {
+    const struct library *asked;
+    const char *name;
+} others[] = {
+    [REFERENCE] = { &reference, "the reference" },
+    [TOLERANCE_0] = { &tolerance, "the tolerance 0" },
+    [RE_EXPOSED] = { &library, "the re-exposed frames" },
 };
 
 /* ---- The two sides ---- */
 
 struct sides {
     uint32_t ours, theirs;
-    struct lent library[MAX_SLICES], reference[MAX_SLICES];
+    struct lent library[MAX_SLICES], other[MAX_SLICES];
 };
 
 static size_t slice_bytes(const struct slice *slice)
@@ -41,23 +53,23 @@ static bool is_const(const struct slice *slice)
     return slice->role == INPUT || slice->role == GIVEN;
 }
 
-/* The library gets a fenced copy; the reference reads the inputs themselves and writes to a heap block of just the told size. */
+/* The library gets a fenced copy; the other side reads the inputs themselves and writes to a heap block of just the told size. */
 static void lend(const struct trial *t, int i, struct sides *sides)
 {
     const struct slice *slice = &t->slice[i];
     if (slice->same_as >= 0) {
         sides->library[i] = sides->library[slice->same_as];
-        sides->reference[i] = sides->reference[slice->same_as];
+        sides->other[i] = sides->other[slice->same_as];
         return;
     }
     size_t bytes = slice_bytes(slice), told = slice->length + slice->unseen;
     uint8_t *fenced = slice->unseen ? fences_lend_wide(i, bytes) : fences_lend(i, bytes, random_below(2));
     memcpy(fenced, slice->before, bytes);
     sides->library[i] = (struct lent){ fenced, told };
-    sides->reference[i] = (struct lent){ slice->before, told };
+    sides->other[i] = (struct lent){ slice->exposed ? slice->exposed : slice->before, told };
     if (!is_const(slice)) {
-        sides->reference[i].at = memory(bytes);
-        memcpy(sides->reference[i].at, slice->before, bytes);
+        sides->other[i].at = memory(bytes);
+        memcpy(sides->other[i].at, slice->before, bytes);
     }
 }
 
@@ -65,7 +77,7 @@ static void give_back(const struct trial *t, const struct sides *sides)
 {
     for (int i = 0; i < t->slices; i++) {
         if (!is_const(&t->slice[i]))
-            free(sides->reference[i].at);
+            free(sides->other[i].at);
         if (t->slice[i].same_as < 0)
             fences_release(i);
     }
@@ -99,29 +111,34 @@ static bool changed(char *mismatch, const struct slice *slice, const uint8_t *no
     return at < bytes && mismatch_at(mismatch, slice, what, now, slice->before, at);
 }
 
-/* An output after acceptance: whole as the reference's, and its excess as before. */
-static bool wrong_output(char *mismatch, const struct slice *slice, const uint8_t *ours, const uint8_t *theirs)
+/* An output after acceptance: whole as the other side's, and its excess as before. */
+static bool wrong_output(char *mismatch, const struct slice *slice, const char *other, const uint8_t *ours, const uint8_t *theirs)
 {
     size_t bytes = slice_bytes(slice), at = first_unequal(ours, theirs, 0, bytes);
+    char what[MISMATCH_ROOM / 2];
+    snprintf(what, sizeof what, "is not that of %s", other);
     if (at < bytes)
-        return mismatch_at(mismatch, slice, "is not the reference's", ours, theirs, at);
+        return mismatch_at(mismatch, slice, what, ours, theirs, at);
     return changed(mismatch, slice, ours, slice->needed * slice->element, "was changed past what is needed");
 }
 
-static bool wrong_slice(char *mismatch, const struct slice *slice, bool accepted, const uint8_t *ours, const uint8_t *theirs)
+static bool wrong_slice(char *mismatch, const struct trial *t, int i, const struct sides *sides)
 {
+    const struct slice *slice = &t->slice[i];
+    const uint8_t *ours = sides->library[i].at, *theirs = sides->other[i].at;
     if (is_const(slice))
         return changed(mismatch, slice, ours, 0, "is an input and was changed");
-    if (!accepted)
+    if (sides->ours != 0)
         return changed(mismatch, slice, ours, 0, "was changed by a refused call") ||
-               changed(mismatch, slice, theirs, 0, "was changed by the reference, which refused");
-    return slice->role != WORK && wrong_output(mismatch, slice, ours, theirs);
+               changed(mismatch, slice, theirs, 0, "was changed by the other side, which refused");
+    return slice->role != WORK && wrong_output(mismatch, slice, others[t->against].name, ours, theirs);
 }
 
 static bool wrong_answer(char *mismatch, const struct trial *t, const struct sides *sides)
 {
     if (sides->ours != sides->theirs)
-        snprintf(mismatch, MISMATCH_ROOM, "answers %" PRIu32 ", the reference %" PRIu32, sides->ours, sides->theirs);
+        snprintf(mismatch, MISMATCH_ROOM, "answers %" PRIu32 ", not the %" PRIu32 " of %s", sides->ours, sides->theirs,
+                 others[t->against].name);
     else if (t->expected != UNKNOWN && t->expected != sides->ours)
         snprintf(mismatch, MISMATCH_ROOM, "both answer %" PRIu32 ", but %" PRIu32 " was wanted", sides->ours, t->expected);
     else
@@ -144,7 +161,7 @@ static bool differs(char *mismatch, const struct trial *t, const struct sides *s
     if (wrong_answer(mismatch, t, sides) || guards_written(mismatch, t))
         return true;
     for (int i = 0; i < t->slices; i++)
-        if (t->slice[i].same_as < 0 && wrong_slice(mismatch, &t->slice[i], sides->ours == 0, sides->library[i].at, sides->reference[i].at))
+        if (t->slice[i].same_as < 0 && wrong_slice(mismatch, t, i, sides))
             return true;
     return false;
 }
@@ -157,7 +174,7 @@ struct comparison compare(const struct call *call, const struct trial *t)
     for (int i = 0; i < t->slices; i++)
         lend(t, i, &sides);
     sides.ours = call->ask(&library, &t->told, sides.library);
-    sides.theirs = call->ask(&reference, &t->told, sides.reference);
+    sides.theirs = call->ask(others[t->against].asked, &t->told, sides.other);
     result.differs = differs(result.mismatch, t, &sides);
     result.answer = sides.ours;
     result.bytes = bytes_compared;

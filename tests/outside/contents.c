@@ -120,6 +120,28 @@ uint8_t *make_rasters(uint32_t w, uint32_t h, uint32_t n)
     return rasters;
 }
 
+/* Greys of this many values at most, R = G = B. */
+static void take_colour(uint8_t *raster, size_t pixels, uint32_t values)
+{
+    for (size_t i = 0; i < pixels; i++)
+        memset(raster + 3 * i, (uint8_t)(raster[3 * i + 1] * values / 256), 3);
+}
+
+uint8_t *re_exposed(uint32_t w, uint32_t h, uint8_t *rasters, size_t bytes)
+{
+    uint8_t *exposed = memory(bytes), curve[256];
+    size_t one = 3 * (size_t)w * h;
+    for (size_t at = 0; at < bytes; at++) {
+        if (at % one == 0) {
+            uint32_t values = 2 + random_below(254);
+            take_colour(rasters + at, one / 3, values);
+            random_curve(values, curve);
+        }
+        exposed[at] = curve[rasters[at]];
+    }
+    return exposed;
+}
+
 /* Squares of 16, 4 and 1 pixels over each other: something to see on every level, in every quadrant. */
 static void fill_squares(uint8_t *raster, uint32_t w, uint32_t h)
 {

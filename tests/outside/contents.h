@@ -14,6 +14,10 @@ uint8_t *make_grey(uint32_t w, uint32_t h);
 uint8_t *make_bitmap(size_t words);
 uint8_t *make_rasters(uint32_t w, uint32_t h, uint32_t n);
 
+/* Takes the colour from rasters of so many bytes, one after another, and gives the same frames exposed otherwise, each by a rising
+ * curve of its own. */
+uint8_t *re_exposed(uint32_t w, uint32_t h, uint8_t *rasters, size_t bytes);
+
 /* Two rasters of one scene, one after the other; often the quadrants of the second slide each for itself, by nearly the same. */
 uint8_t *make_quartered(uint32_t w, uint32_t h);
 

@@ -15,9 +15,10 @@ enum { SHOWN = 10, PROGRESS_STEPS = 20, QUICK_CASES = 5, ROUNDS_FOR_ALL = 1000, 
 
 #define COUNT_OF(list) (sizeof list / sizeof *list)
 
-/* Ordinary trials; those of a given shape, at even numbers accepted, at odd ones refused; those with a slice longer than 2^32. */
-enum family { CASE, LARGE, WIDE, FAMILIES };
-static const char *const family_names[FAMILIES] = { "case", "large", "wide" };
+/* Ordinary trials; those of a given shape, at even numbers accepted, at odd ones refused; those with a slice longer than 2^32; of the
+ * calls with a band those with a band of 0, and those with re-exposed frames. */
+enum family { CASE, LARGE, WIDE, ZERO, EXPOSED, FAMILIES };
+static const char *const family_names[FAMILIES] = { "case", "large", "wide", "zero", "exposed" };
 
 static const struct shape plain_shapes[] = {
     { 4096, 4096, 0, 2 }, { 4096, 1, 0, 16 }, { 1, 4096, 0, 3 }, { 4095, 130, 0, 2 }, { 257, 4093, 0, 5 }, { 2049, 1025, 0, 1 },
@@ -32,13 +33,13 @@ static const struct shape quartered_shapes[] = {
 };
 
 static struct {
-    uint64_t seed, rounds;
+    uint64_t seed, rounds, most; /* it stops at so many differences */
     const char *only;   /* the function to test, NULL for all */
     bool without[FAMILIES];
     enum family family; /* with `single`: the one trial to make */
     bool single;
     uint64_t index;
-} options = { .seed = 1, .rounds = 3000 };
+} options = { .seed = 1, .rounds = 3000, .most = UINT64_MAX };
 
 static struct {
     uint64_t planned, done, calls, bytes, differ;
@@ -75,9 +76,9 @@ static void stopped(int signal)
 static void print_trial(const struct trial *t)
 {
     const struct numbers *n = &t->told;
-    printf("  w %" PRIu32 " h %" PRIu32 " s %" PRIu32 " tolerance %" PRIu32 " percentile %" PRIu32 " n %" PRIu32 " r %" PRIu32
-           " y %" PRIu32 " dx %" PRId32 " dy %" PRId32 " threshold %u second %d\n  lengths:",
-           n->w, n->h, n->s, n->tolerance, n->percentile, n->n, n->r, n->y, n->dx, n->dy, n->threshold, n->second);
+    printf("  w %" PRIu32 " h %" PRIu32 " s %" PRIu32 " tolerance %" PRIu32 " band %" PRIu32 " percentile %" PRIu32 " n %" PRIu32
+           " r %" PRIu32 " y %" PRIu32 " dx %" PRId32 " dy %" PRId32 " threshold %u second %d\n  lengths:",
+           n->w, n->h, n->s, n->tolerance, n->band, n->percentile, n->n, n->r, n->y, n->dx, n->dy, n->threshold, n->second);
     for (int i = 0; i < t->slices; i++)
         if (t->slice[i].role != RESULT)
             printf(" %s %zu", t->slice[i].name, t->slice[i].length + t->slice[i].unseen);
@@ -109,6 +110,11 @@ static bool aligns(const struct call *call)
     return tests_refusal(call, 3) && call->plan == WANTED;
 }
 
+static bool has_band(const struct call *call)
+{
+    return tests_refusal(call, 15);
+}
+
 static const struct shape *shapes_of(const struct call *call, uint64_t *count)
 {
     *count = quartered(call) ? COUNT_OF(quartered_shapes) : aligns(call) ? COUNT_OF(aligned_shapes) : COUNT_OF(plain_shapes);
@@ -126,9 +132,19 @@ static uint64_t planned(const struct call *call, enum family family)
     case LARGE:
         shapes_of(call, &shapes);
         return 2 * shapes;
-    default:
+    case WIDE:
         return MAX_SLICES;
+    default:
+        return has_band(call) ? options.rounds : 0;
     }
+}
+
+/* Whether there is a trial of this number: one for each shape and slice, of the others as many as one likes. */
+static bool exists(const struct call *call, enum family family, uint64_t index)
+{
+    if (family == LARGE || family == WIDE)
+        return index < planned(call, family);
+    return family == CASE || has_band(call);
 }
 
 /* Makes the trial that is under way. False: there is none of this number. */
@@ -139,12 +155,21 @@ static bool make(struct trial *t)
     char name[NAME_ROOM];
     snprintf(name, sizeof name, "%s/%s/%" PRIu64, now.call->name, family_names[now.family], now.index);
     random_begin(options.seed, name);
-    if (now.family == WIDE)
+    switch (now.family) {
+    case WIDE:
         return make_wide_trial(t, now.call, (int)now.index);
-    if (now.family == LARGE)
+    case LARGE:
         make_trial(t, now.call, &shapes[now.index / 2], now.index % 2 == 1);
-    else
+        break;
+    case ZERO:
+        make_zero_trial(t, now.call, random_below(4) == 0);
+        break;
+    case EXPOSED:
+        make_exposed_trial(t, now.call);
+        break;
+    default:
         make_trial(t, now.call, NULL, random_below(9) < 5);
+    }
     return true;
 }
 
@@ -183,14 +208,14 @@ static void try_chosen(void)
 {
     for (int i = 0; i < call_count; i++)
         for (enum family family = CASE; family < FAMILIES; family++)
-            for (uint64_t index = 0; chosen(&calls[i]) && index < planned(&calls[i], family); index++)
+            for (uint64_t index = 0; chosen(&calls[i]) && index < planned(&calls[i], family) && tally.differ < options.most; index++)
                 try(&calls[i], family, index);
 }
 
 static void try_single(void)
 {
     for (int i = 0; i < call_count; i++)
-        if (chosen(&calls[i]) && (options.family == CASE || options.index < planned(&calls[i], options.family)))
+        if (chosen(&calls[i]) && exists(&calls[i], options.family, options.index))
             try(&calls[i], options.family, options.index);
 }
 
@@ -257,7 +282,8 @@ static int summary(void)
 
 static void usage(void)
 {
-    fprintf(stderr, "options: [--seed N] [--rounds N] [--only FUNCTION] [--without large] [--case N | --large N | --wide N]\n");
+    fprintf(stderr, "options: [--seed N] [--rounds N] [--most DIFFERENCES] [--only FUNCTION] [--without FAMILY] [--FAMILY N]\n"
+                    "families: case, large, wide, zero, exposed\n");
     exit(2);
 }
 
@@ -292,6 +318,8 @@ static void read_option(const char *name, const char *value)
         options.seed = number(value);
     else if (strcmp(name, "--rounds") == 0)
         options.rounds = number(value);
+    else if (strcmp(name, "--most") == 0)
+        options.most = number(value);
     else if (strcmp(name, "--only") == 0)
         options.only = value;
     else if (strcmp(name, "--without") == 0)

@@ -65,6 +65,12 @@ static uint32_t choose_tolerance(void)
     return random_below(2) ? PICK(tolerances) : random_below(MAX_TOLERANCE + 1);
 }
 
+static uint32_t choose_band(void)
+{
+    static const uint32_t bands[] = { 0, 1, 15, MAX_BAND, MAX_BAND };
+    return random_below(2) ? PICK(bands) : random_below(MAX_BAND + 1);
+}
+
 static void choose_good(struct numbers *good, const struct call *call)
 {
     static const uint32_t halvings[] = { 0, 0, 0, 0, 1, 1, 1, 2, 2, 2, 3, 3, 4, 5 };
@@ -73,6 +79,7 @@ static void choose_good(struct numbers *good, const struct call *call)
     good->w = choose_side(least_side(call, good->s));
     good->h = choose_side(least_side(call, good->s));
     good->tolerance = choose_tolerance();
+    good->band = choose_band();
     good->percentile = PICK(percentiles);
     good->n = choose_frames();
     good->threshold = (uint8_t)random_bits();
@@ -104,6 +111,13 @@ static uint32_t above(uint32_t limit, uint32_t good)
                                  UINT32_MAX, (uint32_t)random_bits() };
     uint32_t value = PICK(special);
     return value > limit ? value : limit + 1;
+}
+
+/* More often just above the limit. */
+static uint32_t bad_band(uint32_t good)
+{
+    static const uint32_t near[] = { MAX_BAND + 1, MAX_BAND + 1, MAX_BAND + 1, MAX_BAND + 2, MAX_BAND + 3, MAX_BAND + 4 };
+    return random_below(3) ? PICK(near) : above(MAX_BAND, good);
 }
 
 static bool has_room(uint32_t w, uint32_t h)
@@ -156,6 +170,8 @@ static void spoil(struct trial *t, const struct call *call)
         t->told.s = above(MAX_HALVINGS, t->told.s);
     if (t->want[5])
         t->told.tolerance = above(MAX_TOLERANCE, t->told.tolerance);
+    if (t->want[15])
+        t->told.band = bad_band(t->told.band);
     if (t->want[6])
         spoil_frames(t);
     if (t->want[7])

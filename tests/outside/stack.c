@@ -32,16 +32,19 @@ static void call_difference(void) {
     number = mtb_difference(w, h, dx, dy, thresholds, bitmap_len, exclusions, bitmap_len, thresholds, bitmap_len, exclusions,
                             bitmap_len, &left, &right);
 }
+/* The tolerance or the band is 4. */
 #define PAIR_ARGUMENTS                                                                                                          \
     w, h, s, 4, 50, rasters, 3 * area, rasters + 3 * area, 3 * area, &dx, &dy, counts, 9 * (s + 1), compared, 9 * (s + 1), grey, \
         grey_len, words, words_len
 static void call_pair(void) { number = mtb_pair(PAIR_ARGUMENTS); }
 static void call_pair_ward(void) { number = mtb_pair_ward(PAIR_ARGUMENTS); }
+static void call_pair_band(void) { number = mtb_pair_band(PAIR_ARGUMENTS); }
 #define SERIES_ARGUMENTS                                                                                                        \
     w, h, s, 4, n, n / 2, percentiles, n - 1, rasters, n * 3 * area, offsets, 2 * n, counts, 9 * (s + 1) * (n - 1), compared,   \
         9 * (s + 1) * (n - 1), grey, grey_len, words, words_len
 static void call_series(void) { number = mtb_series(SERIES_ARGUMENTS); }
 static void call_series_ward(void) { number = mtb_series_ward(SERIES_ARGUMENTS); }
+static void call_series_band(void) { number = mtb_series_band(SERIES_ARGUMENTS); }
 static void call_quadrants(void) {
     number = mtb_quadrants(w, h, s, 4, 50, rasters, 3 * area, rasters + 3 * area, 3 * area, offsets, 8, &turned, grey, grey_len, words,
                            words_len);
@@ -77,6 +80,8 @@ static const struct {
     {"mtb_series", call_series, ALIGNING},
     {"mtb_pair_ward", call_pair_ward, ALIGNING},
     {"mtb_series_ward", call_series_ward, ALIGNING},
+    {"mtb_pair_band", call_pair_band, ALIGNING},
+    {"mtb_series_band", call_series_band, ALIGNING},
     {"mtb_quadrants", call_quadrants, QUARTERING},
     {"mtb_grey_needed", call_grey_needed, LEVELLED},
     {"mtb_words_needed", call_words_needed, LEVELLED},

@@ -14,24 +14,24 @@ static int refusals_of(const struct call *call)
     return (int)strlen((const char *)call->refusals);
 }
 
-static uint32_t lowest_wanted(const struct trial *t)
+/* That which the call tests first. */
+static uint32_t first_wanted(const struct trial *t, const struct call *call)
 {
-    for (uint32_t number = 1; number < REFUSALS; number++)
-        if (t->want[number])
-            return number;
+    for (const uint8_t *refusal = call->refusals; *refusal; refusal++)
+        if (t->want[*refusal])
+            return *refusal;
     return 0;
 }
 
-/* One refusal, or several at once. */
+/* One refusal that is to come, and often others that the call tests after it. */
 static void want_refusals(struct trial *t, const struct call *call)
 {
-    int all = refusals_of(call);
-    t->want[call->refusals[random_below((uint32_t)all)]] = true;
-    if (random_below(2))
+    int all = refusals_of(call), first = (int)random_below((uint32_t)all);
+    t->want[call->refusals[first]] = true;
+    if (random_below(3) == 0)
         return;
-    for (int i = 0; i < all; i++)
-        if (random_below(3) == 0)
-            t->want[call->refusals[i]] = true;
+    for (int i = first + 1; i < all; i++)
+        t->want[call->refusals[i]] = random_below(2);
 }
 
 /* ---- Lengths ---- */
@@ -139,6 +139,15 @@ static void fill_slices(struct trial *t)
         fill_slice(&t->slice[i]);
 }
 
+/* Numbers and what is wanted are chosen. */
+static void finish_trial(struct trial *t, const struct call *call)
+{
+    choose_lengths(t);
+    share_inputs(t);
+    fill_slices(t);
+    t->expected = call->plan == WANTED ? first_wanted(t, call) : UNKNOWN;
+}
+
 void make_trial(struct trial *t, const struct call *call, const struct shape *large, bool refused)
 {
     memset(t, 0, sizeof *t);
@@ -147,10 +156,33 @@ void make_trial(struct trial *t, const struct call *call, const struct shape *la
         want_refusals(t, call);
     choose_numbers(t, call, large);
     call->slices(t);
-    choose_lengths(t);
-    share_inputs(t);
-    fill_slices(t);
-    t->expected = call->plan == WANTED ? lowest_wanted(t) : UNKNOWN;
+    finish_trial(t, call);
+}
+
+void make_zero_trial(struct trial *t, const struct call *call, bool refused)
+{
+    memset(t, 0, sizeof *t);
+    t->against = TOLERANCE_0;
+    if (refused)
+        want_refusals(t, call);
+    t->want[15] = false;
+    choose_numbers(t, call, NULL);
+    t->told.band = 0;
+    call->slices(t);
+    finish_trial(t, call);
+}
+
+/* Every input of a call with a band is made of rasters. */
+void make_exposed_trial(struct trial *t, const struct call *call)
+{
+    memset(t, 0, sizeof *t);
+    t->against = RE_EXPOSED;
+    choose_numbers(t, call, NULL);
+    call->slices(t);
+    for (int i = 0; i < t->slices; i++)
+        if (t->slice[i].role == INPUT)
+            t->slice[i].exposed = re_exposed(t->made_for.w, t->made_for.h, t->slice[i].made, t->slice[i].needed);
+    finish_trial(t, call);
 }
 
 bool make_wide_trial(struct trial *t, const struct call *call, int slice)
@@ -163,12 +195,14 @@ bool make_wide_trial(struct trial *t, const struct call *call, int slice)
     if (able)
         widen(t, call, &t->slice[slice]);
     fill_slices(t);
-    t->expected = lowest_wanted(t);
+    t->expected = first_wanted(t, call);
     return able;
 }
 
 void free_trial(struct trial *t)
 {
-    for (int i = 0; i < t->slices; i++)
+    for (int i = 0; i < t->slices; i++) {
         free(t->slice[i].before);
+        free(t->slice[i].exposed);
+    }
 }

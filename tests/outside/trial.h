@@ -9,13 +9,13 @@
 #include <stddef.h>
 #include <stdint.h>
 
-enum { MAX_SLICES = 8, REFUSALS = 15, MAX_SIDE = 4096, MAX_HALVINGS = 8, MAX_TOLERANCE = 64, MAX_FRAMES = 16 };
+enum { MAX_SLICES = 8, REFUSALS = 16, MAX_SIDE = 4096, MAX_HALVINGS = 8, MAX_TOLERANCE = 64, MAX_BAND = 16, MAX_FRAMES = 16 };
 
 #define UNKNOWN UINT32_MAX
 
 /* Every number that some call takes. */
 struct numbers {
-    uint32_t w, h, s, tolerance, percentile, n, r, y;
+    uint32_t w, h, s, tolerance, band, percentile, n, r, y;
     int32_t dx, dy;
     uint8_t threshold;
     bool second;
@@ -34,14 +34,20 @@ struct slice {
     int same_as;    /* the earlier input that is lent here again, or -1 */
     uint8_t *made;  /* contents of the needed elements; NULL where any will do */
     uint8_t *before; /* what the elements hold before the call */
+    uint8_t *exposed; /* an input's frames re-exposed, for the other side; NULL where it gets the same */
 };
 
+/* Which other side the library is compared with: the reference; itself, asked with the tolerance 0 in place of a band of 0; itself,
+ * asked the same of re-exposed frames. */
+enum against { REFERENCE, TOLERANCE_0, RE_EXPOSED };
+
 struct trial {
+    enum against against;
     struct numbers told;
     struct numbers made_for; /* the numbers that the buffers suit: those told, but not where these ask for too much memory */
     bool correct_file;       /* a P6 file is one that the writer makes */
     bool want[REFUSALS];     /* the refusals that are to apply */
-    uint32_t expected;       /* the lowest of them, 0 for none; or UNKNOWN */
+    uint32_t expected;       /* the first of them in the call's order, 0 for none; or UNKNOWN */
     int slices;
     struct slice slice[MAX_SLICES];
 };
@@ -65,6 +71,8 @@ struct library {
     __typeof__(mtb_series) *series;
     __typeof__(mtb_pair_ward) *pair_ward;
     __typeof__(mtb_series_ward) *series_ward;
+    __typeof__(mtb_pair_band) *pair_band;
+    __typeof__(mtb_series_band) *series_band;
     __typeof__(mtb_quadrants) *quadrants;
     __typeof__(mtb_p6_size) *p6_size;
     __typeof__(mtb_p6_raster) *p6_raster;
@@ -84,7 +92,7 @@ struct call {
     enum plan plan;
     void (*slices)(struct trial *); /* adds the call's slices, in the order of its arguments */
     uint32_t (*ask)(const struct library *, const struct numbers *, const struct lent *);
-    uint8_t refusals[12]; /* those that it tests, 0 after the last */
+    uint8_t refusals[12]; /* those that it tests, in this order; 0 after the last */
 };
 
 extern const struct call calls[];
@@ -106,6 +114,10 @@ void choose_numbers(struct trial *trial, const struct call *call, const struct s
 /* trial.c */
 struct slice *add_slice(struct trial *trial, enum role role, const char *name, size_t element, size_t needed);
 void make_trial(struct trial *trial, const struct call *call, const struct shape *large, bool refused);
+
+/* Trials of a call with a band against the library itself: with a band of 0; with frames without colour that are accepted. */
+void make_zero_trial(struct trial *trial, const struct call *call, bool refused);
+void make_exposed_trial(struct trial *trial, const struct call *call);
 
 /* A trial with nothing special but one slice that is told longer than 32 bits can tell. False: there is no such slice. */
 bool make_wide_trial(struct trial *trial, const struct call *call, int slice);

@@ -1,4 +1,4 @@
-// Test vectors of `pair` and `pair_ward`: of stored and of made frames.
+// Test vectors of `pair`, `pair_ward` and `pair_band`: of stored and of made frames.
 
 use rules::Paired;
 use vectors::answers::DIFFERS;
@@ -36,7 +36,7 @@ use vectors_data::tally;
 use vectors_scene::make_frames;
 
 // The file, and after it the made bytes of the largest frames.
-const DATA_MEMORY: usize = 3830000;
+const DATA_MEMORY: usize = 4010000;
 
 const GREY_MEMORY: usize = 2830000;
 
@@ -47,7 +47,10 @@ const MOST_COUNTS: usize = 128;
 // The first number of a call in Ward's order.
 const WARD: u32 = 18;
 
-// Sizes and settings of a record.
+// The first number of a call with a band.
+const BAND: u32 = 24;
+
+// Sizes and settings of a record; the tolerance is the band of a call that has one.
 struct Setup {
     w: usize,
     h: usize,
@@ -88,6 +91,21 @@ fn pair_of(
     let set = setup_of(data, at);
     let first = input(data, at, INPUT1);
     let second = input(data, at, INPUT2);
+    if BAND <= field(data, at, CALL) {
+        return pair_band::pair_band(
+            set.w,
+            set.h,
+            set.s,
+            set.tolerance,
+            set.percentile,
+            first,
+            second,
+            counts,
+            compared,
+            grey,
+            words,
+        );
+    }
     if WARD <= field(data, at, CALL) {
         return pair::pair_ward(
             set.w,

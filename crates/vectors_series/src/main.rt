@@ -1,4 +1,4 @@
-// Test vectors of `series` and `series_ward`: of stored and of made frames.
+// Test vectors of `series`, `series_ward` and `series_band`: of stored and of made frames.
 
 use rules::Written;
 use vectors::answers::DIFFERS;
@@ -39,7 +39,7 @@ use vectors_data::tally;
 use vectors_scene::make_frames;
 
 // The file, and after it the made bytes of the largest frames.
-const DATA_MEMORY: usize = 3000000;
+const DATA_MEMORY: usize = 3210000;
 
 const GREY_MEMORY: usize = 710000;
 
@@ -54,7 +54,10 @@ const MOST_PERCENTILES: usize = 32;
 // The first number of a call in Ward's order.
 const WARD: u32 = 18;
 
-// Sizes and settings of a record.
+// The first number of a call with a band.
+const BAND: u32 = 24;
+
+// Sizes and settings of a record; the tolerance is the band of a call that has one.
 struct Setup {
     w: usize,
     h: usize,
@@ -87,6 +90,23 @@ fn series_of(
 ) -> Written {
     let set = setup_of(data, at);
     let rasters = input(data, at, INPUT2);
+    if BAND <= field(data, at, CALL) {
+        return series_band::series_band(
+            set.w,
+            set.h,
+            set.s,
+            set.tolerance,
+            set.n,
+            set.r,
+            percentiles,
+            rasters,
+            offsets,
+            counts,
+            compared,
+            grey,
+            words,
+        );
+    }
     if WARD <= field(data, at, CALL) {
         return series::series_ward(
             set.w,
