@@ -198,9 +198,9 @@ static void break_least_side(struct vector *v)
 static void pair_refusals(void)
 {
     const struct breaker breakers[] = {
-        { 2, false, break_size },                { 3, false, break_halvings }, { 4, false, break_least_side },
-        { way->refusal, false, way->break_most },  { 8, false, break_percentile }, { 9, true, break_input },
-        { 10, true, break_output },              { 11, true, break_memory },
+        { 2, false, break_size },                 { 3, false, break_halvings },   { 4, false, break_least_side },
+        { way->refusal, false, way->break_most }, { 8, false, break_percentile }, { 9, true, break_input },
+        { 10, true, break_output },               { 11, true, break_memory },
     };
     begin_way("pair: refusals");
     add_subsets(pair_vector(8, 9, 1, noise, noise + 300), breakers, COUNT_OF(breakers), 1);
@@ -340,9 +340,9 @@ static void series_refusals(void)
 {
     static const uint32_t percentiles[18] = { 17, 50, 83, 17, 50, 83, 17, 50, 83, 17, 50, 83, 17, 50, 83, 17, 50, 83 };
     const struct breaker breakers[] = {
-        { 2, false, break_size },               { 3, false, break_halvings }, { 4, false, break_least_side },
+        { 2, false, break_size },                 { 3, false, break_halvings }, { 4, false, break_least_side },
         { way->refusal, false, way->break_most }, { 6, false, break_frames },   { 7, false, break_reference },
-        { 8, true, break_percentiles },         { 9, true, break_input },     { 10, true, break_output },
+        { 8, true, break_percentiles },           { 9, true, break_input },     { 10, true, break_output },
         { 11, true, break_memory },
     };
     begin_way("series: refusals");

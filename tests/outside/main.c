@@ -11,14 +11,15 @@
 #include <string.h>
 #include <unistd.h>
 
-enum { SHOWN = 10, PROGRESS_STEPS = 20, QUICK_CASES = 5, ROUNDS_FOR_ALL = 1000, MAX_CALLS = 32, NAME_ROOM = 64, PATIENCE = 300 /* seconds */ };
+enum { SHOWN = 10, PROGRESS_STEPS = 20, QUICK_CASES = 5, ORDER_CASES = 4, ROUNDS_FOR_ALL = 1000, MAX_CALLS = 32, NAME_ROOM = 64 };
+enum { PATIENCE = 300 /* seconds */ };
 
 #define COUNT_OF(list) (sizeof list / sizeof *list)
 
-/* Ordinary trials; those of a given shape, at even numbers accepted, at odd ones refused; those with a slice longer than 2^32; of the
- * calls with a band those with a band of 0, and those with re-exposed frames. */
-enum family { CASE, LARGE, WIDE, ZERO, EXPOSED, FAMILIES };
-static const char *const family_names[FAMILIES] = { "case", "large", "wide", "zero", "exposed" };
+/* Ordinary trials; those of a given shape, at even numbers accepted, at odd ones refused; those with a slice longer than 2^32; those
+ * with each two of the call's refusals; of calls with a band those with a band of 0, and those with re-exposed frames. */
+enum family { CASE, LARGE, WIDE, ORDER, ZERO, EXPOSED, FAMILIES };
+static const char *const family_names[FAMILIES] = { "case", "large", "wide", "order", "zero", "exposed" };
 
 static const struct shape plain_shapes[] = {
     { 4096, 4096, 0, 2 }, { 4096, 1, 0, 16 }, { 1, 4096, 0, 3 }, { 4095, 130, 0, 2 }, { 257, 4093, 0, 5 }, { 2049, 1025, 0, 1 },
@@ -134,17 +135,19 @@ static uint64_t planned(const struct call *call, enum family family)
         return 2 * shapes;
     case WIDE:
         return MAX_SLICES;
+    case ORDER:
+        return call->plan == WANTED ? ORDER_CASES * refusal_pairs(call) : 0;
     default:
         return has_band(call) ? options.rounds : 0;
     }
 }
 
-/* Whether there is a trial of this number: one for each shape and slice, of the others as many as one likes. */
+/* Whether there is a trial of this number. Of the families that go by rounds there are as many as one likes. */
 static bool exists(const struct call *call, enum family family, uint64_t index)
 {
-    if (family == LARGE || family == WIDE)
-        return index < planned(call, family);
-    return family == CASE || has_band(call);
+    if (family == ZERO || family == EXPOSED)
+        return has_band(call);
+    return family == CASE || index < planned(call, family);
 }
 
 /* Makes the trial that is under way. False: there is none of this number. */
@@ -160,6 +163,9 @@ static bool make(struct trial *t)
         return make_wide_trial(t, now.call, (int)now.index);
     case LARGE:
         make_trial(t, now.call, &shapes[now.index / 2], now.index % 2 == 1);
+        break;
+    case ORDER:
+        make_order_trial(t, now.call, now.index % refusal_pairs(now.call));
         break;
     case ZERO:
         make_zero_trial(t, now.call, random_below(4) == 0);
@@ -283,7 +289,7 @@ static int summary(void)
 static void usage(void)
 {
     fprintf(stderr, "options: [--seed N] [--rounds N] [--most DIFFERENCES] [--only FUNCTION] [--without FAMILY] [--FAMILY N]\n"
-                    "families: case, large, wide, zero, exposed\n");
+                    "families: case, large, wide, order, zero, exposed\n");
     exit(2);
 }
 

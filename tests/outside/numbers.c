@@ -79,7 +79,8 @@ static void choose_good(struct numbers *good, const struct call *call)
     good->w = choose_side(least_side(call, good->s));
     good->h = choose_side(least_side(call, good->s));
     good->tolerance = choose_tolerance();
-    good->band = choose_band();
+    if (tests_refusal(call, 15))
+        good->band = choose_band();
     good->percentile = PICK(percentiles);
     good->n = choose_frames();
     good->threshold = (uint8_t)random_bits();

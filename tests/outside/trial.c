@@ -23,15 +23,32 @@ static uint32_t first_wanted(const struct trial *t, const struct call *call)
     return 0;
 }
 
-/* One refusal that is to come, and often others that the call tests after it. */
+/* One refusal, or several at once. */
 static void want_refusals(struct trial *t, const struct call *call)
 {
-    int all = refusals_of(call), first = (int)random_below((uint32_t)all);
-    t->want[call->refusals[first]] = true;
-    if (random_below(3) == 0)
+    int all = refusals_of(call);
+    t->want[call->refusals[random_below((uint32_t)all)]] = true;
+    if (random_below(2))
         return;
-    for (int i = first + 1; i < all; i++)
-        t->want[call->refusals[i]] = random_below(2);
+    for (int i = 0; i < all; i++)
+        if (random_below(3) == 0)
+            t->want[call->refusals[i]] = true;
+}
+
+/* Two refusals of all that the call tests, those of this number. */
+static void want_two(struct trial *t, const struct call *call, uint64_t number)
+{
+    int all = refusals_of(call);
+    for (int one = 0; one < all; one++)
+        for (int other = one + 1; other < all; other++)
+            if (number-- == 0)
+                t->want[call->refusals[one]] = t->want[call->refusals[other]] = true;
+}
+
+uint64_t refusal_pairs(const struct call *call)
+{
+    uint64_t all = (uint64_t)refusals_of(call);
+    return all * (all - 1) / 2;
 }
 
 /* ---- Lengths ---- */
@@ -139,9 +156,11 @@ static void fill_slices(struct trial *t)
         fill_slice(&t->slice[i]);
 }
 
-/* Numbers and what is wanted are chosen. */
-static void finish_trial(struct trial *t, const struct call *call)
+/* What is wanted is chosen. */
+static void make_wanted(struct trial *t, const struct call *call, const struct shape *large)
 {
+    choose_numbers(t, call, large);
+    call->slices(t);
     choose_lengths(t);
     share_inputs(t);
     fill_slices(t);
@@ -154,35 +173,33 @@ void make_trial(struct trial *t, const struct call *call, const struct shape *la
     t->correct_file = large != NULL;
     if (refused && call->plan != CHANCE)
         want_refusals(t, call);
-    choose_numbers(t, call, large);
-    call->slices(t);
-    finish_trial(t, call);
+    make_wanted(t, call, large);
+}
+
+void make_order_trial(struct trial *t, const struct call *call, uint64_t pair)
+{
+    memset(t, 0, sizeof *t);
+    want_two(t, call, pair);
+    make_wanted(t, call, NULL);
 }
 
 void make_zero_trial(struct trial *t, const struct call *call, bool refused)
 {
-    memset(t, 0, sizeof *t);
+    make_trial(t, call, NULL, refused);
     t->against = TOLERANCE_0;
-    if (refused)
-        want_refusals(t, call);
-    t->want[15] = false;
-    choose_numbers(t, call, NULL);
     t->told.band = 0;
-    call->slices(t);
-    finish_trial(t, call);
+    t->want[15] = false;
+    t->expected = first_wanted(t, call);
 }
 
 /* Every input of a call with a band is made of rasters. */
 void make_exposed_trial(struct trial *t, const struct call *call)
 {
-    memset(t, 0, sizeof *t);
+    make_trial(t, call, NULL, false);
     t->against = RE_EXPOSED;
-    choose_numbers(t, call, NULL);
-    call->slices(t);
     for (int i = 0; i < t->slices; i++)
         if (t->slice[i].role == INPUT)
-            t->slice[i].exposed = re_exposed(t->made_for.w, t->made_for.h, t->slice[i].made, t->slice[i].needed);
-    finish_trial(t, call);
+            t->slice[i].exposed = re_exposed(t->told.w, t->told.h, t->slice[i].before, t->slice[i].length);
 }
 
 bool make_wide_trial(struct trial *t, const struct call *call, int slice)

@@ -115,7 +115,11 @@ void choose_numbers(struct trial *trial, const struct call *call, const struct s
 struct slice *add_slice(struct trial *trial, enum role role, const char *name, size_t element, size_t needed);
 void make_trial(struct trial *trial, const struct call *call, const struct shape *large, bool refused);
 
-/* Trials of a call with a band against the library itself: with a band of 0; with frames without colour that are accepted. */
+/* Two refusals at once: which of all pairs that the call's make. */
+uint64_t refusal_pairs(const struct call *call);
+void make_order_trial(struct trial *trial, const struct call *call, uint64_t pair);
+
+/* Trials of a call with a band against the library itself: with a band of 0; accepted ones with frames without colour. */
 void make_zero_trial(struct trial *trial, const struct call *call, bool refused);
 void make_exposed_trial(struct trial *trial, const struct call *call);
 
