@@ -210,12 +210,20 @@ static bool chosen(const struct call *call)
     return !options.only || strcmp(options.only, call->name) == 0;
 }
 
+static void try_families(const struct call *call)
+{
+    for (enum family family = CASE; family < FAMILIES; family++)
+        for (uint64_t index = 0; index < planned(call, family) && tally.differ < options.most; index++)
+            try(call, family, index);
+}
+
+/* Those that align last: they take the longest. */
 static void try_chosen(void)
 {
-    for (int i = 0; i < call_count; i++)
-        for (enum family family = CASE; family < FAMILIES; family++)
-            for (uint64_t index = 0; chosen(&calls[i]) && index < planned(&calls[i], family) && tally.differ < options.most; index++)
-                try(&calls[i], family, index);
+    for (int last = 0; last < 2; last++)
+        for (int i = 0; i < call_count; i++)
+            if (chosen(&calls[i]) && aligns(&calls[i]) == last)
+                try_families(&calls[i]);
 }
 
 static void try_single(void)
