@@ -80,7 +80,8 @@ fn number_of(answer: Paired, data: &[u8], at: usize) -> u32 {
     }
 }
 
-fn pair_of(
+// The call by a band.
+fn by_band(
     data: &[u8],
     at: usize,
     counts: &mut [u32],
@@ -91,21 +92,35 @@ fn pair_of(
     let set = setup_of(data, at);
     let first = input(data, at, INPUT1);
     let second = input(data, at, INPUT2);
+    pair_band::pair_band(
+        set.w,
+        set.h,
+        set.s,
+        set.tolerance,
+        set.percentile,
+        first,
+        second,
+        counts,
+        compared,
+        grey,
+        words,
+    )
+}
+
+fn pair_of(
+    data: &[u8],
+    at: usize,
+    counts: &mut [u32],
+    compared: &mut [u32],
+    grey: &mut [u8],
+    words: &mut [u64],
+) -> Paired {
     if BAND <= field(data, at, CALL) {
-        return pair_band::pair_band(
-            set.w,
-            set.h,
-            set.s,
-            set.tolerance,
-            set.percentile,
-            first,
-            second,
-            counts,
-            compared,
-            grey,
-            words,
-        );
+        return by_band(data, at, counts, compared, grey, words);
     }
+    let set = setup_of(data, at);
+    let first = input(data, at, INPUT1);
+    let second = input(data, at, INPUT2);
     if WARD <= field(data, at, CALL) {
         return pair::pair_ward(
             set.w,

@@ -78,7 +78,8 @@ fn setup_of(data: &[u8], at: usize) -> Setup {
     }
 }
 
-fn series_of(
+// The call by a band.
+fn by_band(
     data: &[u8],
     at: usize,
     percentiles: &[u32],
@@ -90,16 +91,38 @@ fn series_of(
 ) -> Written {
     let set = setup_of(data, at);
     let rasters = input(data, at, INPUT2);
+    series_band::series_band(
+        set.w,
+        set.h,
+        set.s,
+        set.tolerance,
+        set.n,
+        set.r,
+        percentiles,
+        rasters,
+        offsets,
+        counts,
+        compared,
+        grey,
+        words,
+    )
+}
+
+fn series_of(
+    data: &[u8],
+    at: usize,
+    percentiles: &[u32],
+    offsets: &mut [i32],
+    counts: &mut [u32],
+    compared: &mut [u32],
+    grey: &mut [u8],
+    words: &mut [u64],
+) -> Written {
     if BAND <= field(data, at, CALL) {
-        return series_band::series_band(
-            set.w,
-            set.h,
-            set.s,
-            set.tolerance,
-            set.n,
-            set.r,
+        return by_band(
+            data,
+            at,
             percentiles,
-            rasters,
             offsets,
             counts,
             compared,
@@ -107,6 +130,8 @@ fn series_of(
             words,
         );
     }
+    let set = setup_of(data, at);
+    let rasters = input(data, at, INPUT2);
     if WARD <= field(data, at, CALL) {
         return series::series_ward(
             set.w,
