@@ -108,7 +108,8 @@ fn by_band(
     )
 }
 
-fn series_of(
+// The call by a tolerance, of either order.
+fn by_tolerance(
     data: &[u8],
     at: usize,
     percentiles: &[u32],
@@ -118,18 +119,6 @@ fn series_of(
     grey: &mut [u8],
     words: &mut [u64],
 ) -> Written {
-    if BAND <= field(data, at, CALL) {
-        return by_band(
-            data,
-            at,
-            percentiles,
-            offsets,
-            counts,
-            compared,
-            grey,
-            words,
-        );
-    }
     let set = setup_of(data, at);
     let rasters = input(data, at, INPUT2);
     if WARD <= field(data, at, CALL) {
@@ -158,6 +147,40 @@ fn series_of(
         set.r,
         percentiles,
         rasters,
+        offsets,
+        counts,
+        compared,
+        grey,
+        words,
+    )
+}
+
+fn series_of(
+    data: &[u8],
+    at: usize,
+    percentiles: &[u32],
+    offsets: &mut [i32],
+    counts: &mut [u32],
+    compared: &mut [u32],
+    grey: &mut [u8],
+    words: &mut [u64],
+) -> Written {
+    if BAND <= field(data, at, CALL) {
+        return by_band(
+            data,
+            at,
+            percentiles,
+            offsets,
+            counts,
+            compared,
+            grey,
+            words,
+        );
+    }
+    by_tolerance(
+        data,
+        at,
+        percentiles,
         offsets,
         counts,
         compared,
