@@ -1,0 +1,6 @@
+-- What is true of every list of live bracket calls (document 02, Paper 7).
+pub mod Runs
+pub mod Sessions
+pub mod LiveLaw
+pub mod UsedMemory
+pub mod ReexposedSessions
