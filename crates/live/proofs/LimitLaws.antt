@@ -23,22 +23,18 @@ use Rattle.live.specs.Held.{heldLength, bracketOf, heldPair, pairsIn}
 use Rattle.live.specs.HeldOk.{BracketOk, AddOk, DropOk, TellOk}
 use Rattle.live.specs.Steps.{someFar, badBracket, badHeld, emptyOf, startNumber, addNumber, dropNumber, tellNumber}
 
--- Limits of a bracket, from its tests.
-bracket-tests : (B : Bracket) → badSize (B .w) (B .h) ≡ false → badHalvings (B .s) ≡ false → tooSmall (B .w) (B .h) (B .s) ≡ false
-    → badTolerance (B .tolerance) ≡ false → badPercentile (B .percentile) ≡ false → B .frames ≤ maxFrames → BracketOk B
-unfolding badTolerance
-bracket-tests B size halvings small tolerance percentile few =
-    let p = percentile-ok (B .percentile) percentile in
-    record {
-      shape = shape-ok (B .w) (B .h) (B .s) (rw (size, halvings, small));
-      tolerance = ltb-false maxTolerance (B .tolerance) tolerance;
-      percentile = record { least = let l = p .0 in omega arith; most = let l = p .1 in omega arith };
-      frames = few;
-    }
+-- a bracket that none of the tests finds bad
+pub record NoneBad (B : Bracket) : Type 0 where
+  pub size : badSize (B .w) (B .h) ≡ false
+  pub halvings : badHalvings (B .s) ≡ false
+  pub small : tooSmall (B .w) (B .h) (B .s) ≡ false
+  pub tolerance : badTolerance (B .tolerance) ≡ false
+  pub percentile : badPercentile (B .percentile) ≡ false
+  pub frames : B .frames ≤ maxFrames
 
-pub bracket-ok : (B : Bracket) → badBracket B ≡ false → BracketOk B
+pub none-bad : (B : Bracket) → badBracket B ≡ false → NoneBad B
 unfolding badBracket
-bracket-ok B e =
+none-bad B e =
     let c3 : Bool = badHalvings (B .s) in
     let c4 : Bool = tooSmall (B .w) (B .h) (B .s) in
     let c5 : Bool = badTolerance (B .tolerance) in
@@ -49,7 +45,26 @@ bracket-ok B e =
     let c = or-no c4 (c5 || (c8 || many)) (b .1) in
     let d = or-no c5 (c8 || many) (c .1) in
     let f = or-no c8 many (d .1) in
-    bracket-tests B (a .0) (b .0) (c .0) (d .0) (f .0) (ltb-false maxFrames (B .frames) (f .1))
+    record { size = a .0; halvings = b .0; small = c .0; tolerance = d .0; percentile = f .0; frames = ltb-false maxFrames (B .frames) (f .1) }
+
+pub not-bad : (B : Bracket) → NoneBad B → badBracket B ≡ false
+unfolding badBracket
+not-bad B n = rw (n .size, n .halvings, n .small, n .tolerance, n .percentile, le-ltb maxFrames (B .frames) (n .frames))
+
+-- its limits
+pub limits-ok : (B : Bracket) → NoneBad B → BracketOk B
+unfolding badTolerance
+limits-ok B n =
+    let p = percentile-ok (B .percentile) (n .percentile) in
+    record {
+      shape = shape-ok (B .w) (B .h) (B .s) (rw (n .size, n .halvings, n .small));
+      tolerance = ltb-false maxTolerance (B .tolerance) (n .tolerance);
+      percentile = record { least = let l = p .0 in omega arith; most = let l = p .1 in omega arith };
+      frames = n .frames;
+    }
+
+pub bracket-ok : (B : Bracket) → badBracket B ≡ false → BracketOk B
+bracket-ok B e = limits-ok B (none-bad B e)
 
 pub far-no : (bound : ℕ) (d : ℕ → Offset) (n : ℕ) → someFar bound d n ≡ false → (k : ℕ) → k < n → Near bound (d k)
 unfolding someFar
@@ -87,10 +102,10 @@ pub near-511 : (s : ℕ) (m : Offset) → s ≤ maxHalvings → Near (2 ^ suc s 
 near-511 s m low = near-more (2 ^ suc s - 1) maxOffset m (let p = pow-mono {i = suc s} {j = 9} (omega arith) in omega arith)
 
 -- Accepted calls.
-pub start-ok : (w h s tolerance percentile numbers newest : ℕ) → startNumber w h s tolerance percentile numbers newest ≡ 0
-    → BracketOk (emptyOf w h s tolerance percentile) × (numbers ≡ heldLength) × (newest ≡ w * h)
+pub start-none-bad : (w h s tolerance percentile numbers newest : ℕ) → startNumber w h s tolerance percentile numbers newest ≡ 0
+    → NoneBad (emptyOf w h s tolerance percentile) × (numbers ≡ heldLength) × (newest ≡ w * h)
 unfolding startNumber
-start-ok w h s tolerance percentile numbers newest e =
+start-none-bad w h s tolerance percentile numbers newest e =
     let wrong1 : Bool = wrongLength heldLength numbers in
     let wrong2 : Bool = wrongLength (greyLength w h) newest in
     let n9 : ℕ = 9 when (wrong1 || wrong2) in
@@ -104,13 +119,25 @@ start-ok w h s tolerance percentile numbers newest e =
     let c = orElse-no n4 (n5 orElse n8 orElse n9) (b .1) in
     let d = orElse-no n5 (n8 orElse n9) (c .1) in
     let f = orElse-no n8 n9 (d .1) in
-    let g = or-no wrong1 wrong2 (when-no 9 (wrong1 || wrong2) (omega arith) (f .1)) in (
-      bracket-tests (emptyOf w h s tolerance percentile)
-          (when-no 2 (badSize w h) (omega arith) (a .0)) (when-no 3 (badHalvings s) (omega arith) (b .0)) (when-no 4 (tooSmall w h s) (omega arith) (c .0))
-          (when-no 5 (badTolerance tolerance) (omega arith) (d .0)) (when-no 8 (badPercentile percentile) (omega arith) (f .0)) (omega arith),
+    let g = or-no wrong1 wrong2 (when-no 9 (wrong1 || wrong2) (omega arith) (f .1)) in
+    (
+      record {
+        size = when-no 2 (badSize w h) (omega arith) (a .0);
+        halvings = when-no 3 (badHalvings s) (omega arith) (b .0);
+        small = when-no 4 (tooSmall w h s) (omega arith) (c .0);
+        tolerance = when-no 5 (badTolerance tolerance) (omega arith) (d .0);
+        percentile = when-no 8 (badPercentile percentile) (omega arith) (f .0);
+        frames = omega arith;
+      },
       length-is heldLength numbers (g .0),
       length-is (greyLength w h) newest (g .1),
     )
+
+pub start-ok : (w h s tolerance percentile numbers newest : ℕ) → startNumber w h s tolerance percentile numbers newest ≡ 0
+    → BracketOk (emptyOf w h s tolerance percentile) × (numbers ≡ heldLength) × (newest ≡ w * h)
+start-ok w h s tolerance percentile numbers newest e =
+    let a = start-none-bad w h s tolerance percentile numbers newest e in
+    (limits-ok (emptyOf w h s tolerance percentile) (a .0), a .1, a .2)
 
 pub add-ok : (bad : Bool) (B : Bracket) (numbers newest raster grey words : ℕ) → addNumber bad B numbers newest raster grey words ≡ 0
     → AddOk bad B numbers newest raster grey words

@@ -1,0 +1,6 @@
+-- Proofs of what is true of every list of live bracket calls.
+pub mod UsedLaws
+pub mod SessionLaws
+pub mod SeriesOfLaws
+pub mod RunLaws
+pub mod LawProof
