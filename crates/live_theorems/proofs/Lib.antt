@@ -4,3 +4,4 @@ pub mod SessionLaws
 pub mod SeriesOfLaws
 pub mod RunLaws
 pub mod LawProof
+pub mod UnreadLaws
