@@ -5,3 +5,4 @@ pub mod SeriesOfLaws
 pub mod RunLaws
 pub mod LawProof
 pub mod UnreadLaws
+pub mod ReexposedLaws

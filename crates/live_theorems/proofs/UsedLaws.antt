@@ -308,7 +308,7 @@ after-uses preferred u m c r e =
     lengths = made-lengths preferred s (c .call) e
 
 -- The answer.
-list-by : (n : ℕ) (d e : ℕ → Offset) → ((j : ℕ) → j < n - 1 → d j ≡ e j) → offsetList n (frameOffset d 0) ≡ offsetList n (frameOffset e 0)
+pub list-by : (n : ℕ) (d e : ℕ → Offset) → ((j : ℕ) → j < n - 1 → d j ≡ e j) → offsetList n (frameOffset d 0) ≡ offsetList n (frameOffset e 0)
 unfolding offsetList
 list-by zero d e same = refl
 list-by (suc n) d e same = frame-list-ext (suc n) 0 d e (omega arith) same
