@@ -119,8 +119,7 @@ start-none-bad w h s tolerance percentile numbers newest e =
     let c = orElse-no n4 (n5 orElse n8 orElse n9) (b .1) in
     let d = orElse-no n5 (n8 orElse n9) (c .1) in
     let f = orElse-no n8 n9 (d .1) in
-    let g = or-no wrong1 wrong2 (when-no 9 (wrong1 || wrong2) (omega arith) (f .1)) in
-    (
+    let g = or-no wrong1 wrong2 (when-no 9 (wrong1 || wrong2) (omega arith) (f .1)) in (
       record {
         size = when-no 2 (badSize w h) (omega arith) (a .0);
         halvings = when-no 3 (badHalvings s) (omega arith) (b .0);

@@ -7,14 +7,13 @@ use lib.ListN.{length}
 use lib.Seq.{length-take-le}
 use Rattle.rules.specs.declared.Offset.{Offset}
 use Rattle.rules.specs.Levels.{Near, Every, leastMoveOrder}
-use Rattle.rules.specs.Calls.{seriesNumber}
 use Rattle.rules.specs.Answers.{written}
 use Rattle.rules.proofs.RefusalLaws.{buffer-part}
 use Rattle.rules.proofs.SeriesLaws.{offsets-size}
 use Rattle.live.specs.Held.{Memory}
 use Rattle.live.specs.Steps.{Call, Reply, startNumber, numberOf, step, framesIn, offsetsIn}
 use Rattle.live_theorems.specs.Runs.{Handed, slicesOf, afterCall, replies, afterAll}
-use Rattle.live_theorems.specs.Sessions.{Session, opened, allRasters, seriesOf, seriesOffsets, sessionAfter}
+use Rattle.live_theorems.specs.Sessions.{opened, allRasters, seriesOf, seriesOffsets}
 use Rattle.live_theorems.specs.LiveLaw.{starting, accepted, AsSession, HeldAfter, SeriesTakes, LiveLaw}
 use Rattle.live_theorems.proofs.UsedLaws.{after-lengths}
 use Rattle.live_theorems.proofs.SessionLaws.{SessionOk, opened-ok, session-ok}
@@ -43,15 +42,14 @@ module _ (preferred : List Offset) (steps : Every (Near 1) preferred) where
   held-after m numbers newest w h s tolerance percentile cs l e =
       let c : Handed = starting numbers newest w h s tolerance percentile in
       let r = list-holds preferred steps (opened w h s tolerance percentile) (afterCall preferred m c)
-          (start-holds preferred m numbers newest w h s tolerance percentile (l .0) (l .1) e) cs
-          (within-kept m (afterCall preferred m c) cs (after-lengths preferred m c) (l .2)) in
+      (start-holds preferred m numbers newest w h s tolerance percentile (l .0) (l .1) e) cs
+      (within-kept m (afterCall preferred m c) cs (after-lengths preferred m c) (l .2)) in
       record { bracket = r .uses .numbered .bracket; few = r .session .limits .frames }
 
 series-written : (preferred : List Offset) → SeriesTakes preferred
 series-written preferred numbers newest w h s tolerance percentile cs e S at some offsets offsets′ counts counts′ compared compared′ grey grey′ words words′ r r1 r2 r3 r4 r5 call =
     let ok : SessionOk S = subst SessionOk (sym at) (session-ok (opened w h s tolerance percentile) (opened-ok w h s tolerance percentile numbers newest e) cs) in
-    let z = series-takes S ok offsets counts compared grey words some r1 r2 r3 r4 r5 in
-    (
+    let z = series-takes S ok offsets counts compared grey words some r1 r2 r3 r4 r5 in (
       call .answered ∙ ap written z,
       buffer-part _ (2 * length (S .rasters)) (seriesOffsets preferred S) offsets offsets′ z (offsets-size preferred (seriesOf S) (allRasters (S .rasters))) (call .offsetsAre),
     )

@@ -9,7 +9,6 @@ use lib.ListN.{length, getD, drop, length-drop}
 use Rattle.rules.specs.declared.Offset.{Offset}
 use Rattle.rules.specs.declared.Exclusion.{Exclusion}
 use Rattle.rules.specs.Greys.{greyFrame}
-use Rattle.rules.specs.Accepted.{PercentileOk}
 use Rattle.rules.specs.Levels.{Near, Every, leastMoveOrder, ruleOf, Aligned}
 use Rattle.rules.specs.Series.{frameOffset, offsetList}
 use Rattle.rules.proofs.SumLaws.{order}
@@ -26,7 +25,7 @@ use Rattle.live_theorems.specs.Sessions.{Session, opened, withRasters, b
 use Rattle.live_theorems.specs.LiveLaw.{accepted}
 use Rattle.live_theorems.specs.ReexposedSessions.{ReexposedRaster, AlikeCall, AlikeCalls, ReexposedAlike}
 use Rattle.live_theorems.proofs.UsedLaws.{list-by}
-use Rattle.live_theorems.proofs.SessionLaws.{SessionOk, opened-ok, changed-ok, next-ok, more-at, last-at, more-length, less-at}
+use Rattle.live_theorems.proofs.SessionLaws.{SessionOk, opened-ok, next-ok, more-at, last-at, more-length, less-at}
 use Rattle.live_theorems.proofs.SeriesOfLaws.{usedIn, series-told}
 use Rattle.live_theorems.proofs.LawProof.{live-law, near-least}
 

@@ -1,12 +1,12 @@
 -- The series call on the frames of a session: its pairs are the pairs of neighbours, and it is accepted.
 use mathlib.Core.Path.{_≡_, refl, sym, ap, _∙_}
-use mathlib.Core.Bool.{Bool, false, _||_, not}
+use mathlib.Core.Bool.{false}
 use mathlib.Core.List.{List, [], _∷_, _++_}
 use Prim.Native.Nat.{ℕ, zero, suc, _+_, _*_, _-_, _≤_, _<_}
-use native.Mathlib.Nat.{zero-add, zero-mul, suc-mul, le-of-suc-le-suc}
+use native.Mathlib.Nat.{zero-mul, suc-mul}
 use native.Mathlib.Omega.{arith}
 use lib.IntN.{ℤ}
-use lib.ListN.{length, getD, drop, take, replicate, length-append, length-replicate, getD-replicate, List·getD-append}
+use lib.ListN.{length, getD, drop, replicate, length-append, length-replicate, getD-replicate, List·getD-append}
 use lib.Seq.{getD-append-add, getD-drop}
 use borrow.Author.Tests.{eq-eqb, ne-eqb, le-ltb, lt-ltb}
 use Rattle.rules.specs.declared.Offset.{Offset}
@@ -16,14 +16,13 @@ use Rattle.rules.specs.Frames.{Frame, SameFrame}
 use Rattle.rules.specs.Greys.{grey, greyFrame}
 use Rattle.rules.specs.Levels.{ruleOf, Aligned, alignedBy, pair}
 use Rattle.rules.specs.Series.{greyOf, pairOf, frameOffset, offsetList, answerOf, answerBy, seriesAnswer}
-use Rattle.rules.specs.Refusals.{badPercentile, someBadPercentile, badPercentiles, badFrames, badReference, countsLength, greyNeeded, wordsNeeded, rasterLength, seriesRefusal}
+use Rattle.rules.specs.Refusals.{someBadPercentile, badPercentiles, badFrames, badReference, countsLength, greyNeeded, wordsNeeded, rasterLength, seriesRefusal}
 use Rattle.rules.specs.Calls.{seriesNumber}
 use Rattle.rules.proofs.FrameLaws.{pixel-fits}
 use Rattle.rules.proofs.PairLaws.{pair-ext}
-use Rattle.rules.proofs.SeriesLaws.{frame-list-ext}
 use Rattle.live.specs.Steps.{setupIn}
 use Rattle.live_theorems.specs.Sessions.{Session, bracketIn, allRasters, seriesOf, seriesOffsets}
-use Rattle.live_theorems.proofs.UsedLaws.{Used}
+use Rattle.live_theorems.proofs.UsedLaws.{Used, list-by}
 use Rattle.live_theorems.proofs.SessionLaws.{SessionOk}
 
 -- frame k of a session
@@ -90,15 +89,10 @@ module _ (S : Session) (ok : SessionOk S) where
         (greyOf (seriesOf S) (allRasters (S .rasters)) k) (greyIn S k) (greyOf (seriesOf S) (allRasters (S .rasters)) (k + 1)) (greyIn S (k + 1))
         (series-frame k (omega arith)) (series-frame (k + 1) (omega arith)))
 
-    list-is : (n : ℕ) → n ≡ length (S .rasters) → offsetList n (frameOffset (λ k. seriesPairs k .offset) 0) ≡ offsetList n (frameOffset (usedIn order S .pairs) 0)
-    unfolding offsetList
-    list-is zero e = refl
-    list-is (suc n) e = frame-list-ext (suc n) 0 (λ k. seriesPairs k .offset) (usedIn order S .pairs) (omega arith) (λ k l. series-pair k (omega arith))
-
     -- the offsets that the session tells, from the pairs of neighbours
     pub series-told : seriesOffsets order S ≡ offsetList (length (S .rasters)) (frameOffset (usedIn order S .pairs) 0)
     unfolding seriesAnswer answerBy answerOf
-    series-told = list-is (length (S .rasters)) refl
+    series-told = list-by (length (S .rasters)) (λ k. seriesPairs k .offset) (usedIn order S .pairs) series-pair
 
   none-some : (n : ℕ) → someBadPercentile (replicate n (S .percentile)) ≡ false
   unfolding someBadPercentile
@@ -114,10 +108,19 @@ module _ (S : Session) (ok : SessionOk S) where
   series-takes offsets counts compared grey words some r1 r2 r3 r4 r5 =
       let n : ℕ = length (S .rasters) in
       rw (
-        ok .limits .size, ok .limits .halvings, ok .limits .small, ok .limits .tolerance,
-        ne-eqb n 0 (λ e. omega arith), le-ltb maxFrames n (ok .limits .frames), lt-ltb 0 n some,
-        eq-eqb (length (replicate (n - 1) (S .percentile))) (n - 1) (length-replicate (n - 1) (S .percentile)), none-some (n - 1),
+        ok .limits .size,
+        ok .limits .halvings,
+        ok .limits .small,
+        ok .limits .tolerance,
+        ne-eqb n 0 (λ e. omega arith),
+        le-ltb maxFrames n (ok .limits .frames),
+        lt-ltb 0 n some,
+        eq-eqb (length (replicate (n - 1) (S .percentile))) (n - 1) (length-replicate (n - 1) (S .percentile)),
+        none-some (n - 1),
         eq-eqb (length (allRasters (S .rasters))) (n * rasterLength (S .w) (S .h)) (all-length (3 * (S .w * S .h)) (S .rasters) (ok .sizes)),
-        le-ltb (length offsets) (2 * n) r1, le-ltb (length counts) (countsLength (S .s) * (n - 1)) r2, le-ltb (length compared) (countsLength (S .s) * (n - 1)) r3,
-        le-ltb (length grey) (greyNeeded (S .s) (S .w) (S .h)) r4, le-ltb (length words) (wordsNeeded (S .w) (S .h)) r5
+        le-ltb (length offsets) (2 * n) r1,
+        le-ltb (length counts) (countsLength (S .s) * (n - 1)) r2,
+        le-ltb (length compared) (countsLength (S .s) * (n - 1)) r3,
+        le-ltb (length grey) (greyNeeded (S .s) (S .w) (S .h)) r4,
+        le-ltb (length words) (wordsNeeded (S .w) (S .h)) r5,
       )

@@ -1,5 +1,5 @@
 -- A session that an accepted start and a list of calls lead to: its size and settings are within their limits, its rasters of its size, and there are 16 at most.
-use mathlib.Core.Path.{_≡_, refl, sym, ap, _∙_}
+use mathlib.Core.Path.{_≡_, refl, ap, _∙_}
 use mathlib.Core.Bool.{false}
 use mathlib.Core.Logic.{⊎-elim}
 use mathlib.Core.List.{List, [], _∷_, _++_}
@@ -7,11 +7,10 @@ use Prim.Native.Nat.{ℕ, zero, suc, _+_, _*_, _<_, _≤_}
 use native.Mathlib.Omega.{arith}
 use lib.ListN.{length, getD, drop, length-append, length-drop, List·getD-append}
 use lib.Seq.{getD-at, getD-drop}
-use Rattle.rules.specs.Limits.{maxFrames}
 use Rattle.rules.proofs.SumLaws.{order}
 use Rattle.live.specs.HeldOk.{AddOk}
 use Rattle.live.specs.Steps.{Call, startNumber, ifAccepted}
-use Rattle.live.proofs.LimitLaws.{NoneBad, start-none-bad, add-ok, drop-ok}
+use Rattle.live.proofs.LimitLaws.{NoneBad, start-none-bad, add-ok}
 use Rattle.live_theorems.specs.Runs.{Handed}
 use Rattle.live_theorems.specs.Sessions.{Session, opened, bracketIn, numberIn, changed, sessionAfter}
 

@@ -1,14 +1,13 @@
 -- What a call uses of the memory: a step's answer, and what the memory that it leaves shows, follow from the bracket, the pairs in use and the newest frame alone.
 use mathlib.Core.Path.{_≡_, refl, sym, ap, ap₂, subst, _∙_}
-use mathlib.Core.Bool.{Bool, false, _||_, cond}
+use mathlib.Core.Bool.{Bool, _||_, cond}
 use mathlib.Core.Logic.{⊎-elim}
-use mathlib.Core.List.{List, [], _∷_, _++_}
+use mathlib.Core.List.{List, [], _∷_}
 use Prim.Native.Nat.{ℕ, zero, suc, _+_, _*_, _-_, _^_, _≤_, _<_}
 use native.Mathlib.Omega.{arith}
 use lib.Dec.{ltb, eqb}
 use lib.IntN.{ℤ, pos, natAbs}
 use lib.ListN.{length, take, drop, getD, length-append, length-take, length-drop, List·getD-append}
-use lib.Seq.{getD-take}
 use borrow.Author.Tests.{eq-eqb, ne-eqb}
 use Rattle.rules.specs.declared.Offset.{Offset}
 use Rattle.rules.specs.Limits.{maxFrames}
@@ -226,8 +225,7 @@ made-sizes : (preferred : List Offset) (m : Memory) (c : Call) → length (m .nu
 unfolding made usedAfter started grown shrunk
 made-sizes preferred m (Call.Start w h s tolerance percentile) numbers newest few = (layout-length (emptyOf w h s tolerance percentile) (λ k. still) few ∙ sym numbers, refl)
 made-sizes preferred m (Call.Add raster grey words) numbers newest few =
-    let B : Bracket = bracketOf (m .numbers) in
-    (
+    let B : Bracket = bracketOf (m .numbers) in (
       layout-length (holding B (B .frames + 1)) (extended (heldPair (m .numbers)) (pairsIn B) (newPair preferred B (m .newest) raster)) few ∙ sym numbers,
       length-rows (B .w) (B .h) (greyFrame (B .w) raster) ∙ sym newest,
     )

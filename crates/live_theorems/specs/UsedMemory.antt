@@ -6,7 +6,6 @@ use lib.IntN.{ℤ, pos}
 use lib.ListN.{length, getD}
 use Rattle.rules.specs.declared.Offset.{Offset}
 use Rattle.rules.specs.Frames.{frameOf, SameFrame}
-use Rattle.live.specs.declared.Bracket.{Bracket}
 use Rattle.live.specs.Held.{Memory, heldLength, pairPlace, bracketOf, heldPair, pairsIn}
 use Rattle.live.specs.Steps.{Call, numberOf, step}
 use Rattle.live_theorems.specs.Runs.{Handed, replies}
