@@ -6,3 +6,4 @@ pub mod RunLaws
 pub mod LawProof
 pub mod UnreadLaws
 pub mod ReexposedLaws
+pub mod ExampleSessions

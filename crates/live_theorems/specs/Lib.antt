@@ -4,3 +4,4 @@ pub mod Sessions
 pub mod LiveLaw
 pub mod UsedMemory
 pub mod ReexposedSessions
+pub mod LiveExamples
