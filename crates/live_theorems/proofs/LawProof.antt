@@ -15,7 +15,7 @@ use Rattle.live.specs.Steps.{Call, Reply, startNumber, numberOf, step, framesIn
 use Rattle.live_theorems.specs.Runs.{Handed, slicesOf, afterCall, replies, afterAll}
 use Rattle.live_theorems.specs.Sessions.{opened, allRasters, seriesOf, seriesOffsets}
 use Rattle.live_theorems.specs.LiveLaw.{starting, accepted, AsSession, HeldAfter, SeriesTakes, LiveLaw}
-use Rattle.live_theorems.proofs.UsedLaws.{after-lengths}
+use Rattle.live_theorems.proofs.AfterLaws.{after-lengths}
 use Rattle.live_theorems.proofs.SessionLaws.{SessionOk, opened-ok, session-ok}
 use Rattle.live_theorems.proofs.SeriesOfLaws.{series-takes}
 use Rattle.live_theorems.proofs.RunLaws.{start-holds, within-kept, list-same, list-holds}

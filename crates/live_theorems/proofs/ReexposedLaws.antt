@@ -24,7 +24,7 @@ use Rattle.live_theorems.specs.Runs.{Handed}
 use Rattle.live_theorems.specs.Sessions.{Session, opened, withRasters, bracketIn, numberIn, changed, framesTold, seriesOffsets, offsetsTold, replyIn, repliesIn}
 use Rattle.live_theorems.specs.LiveLaw.{accepted}
 use Rattle.live_theorems.specs.ReexposedSessions.{ReexposedRaster, AlikeCall, AlikeCalls, ReexposedAlike}
-use Rattle.live_theorems.proofs.UsedLaws.{list-by}
+use Rattle.live_theorems.proofs.ReplyLaws.{list-by}
 use Rattle.live_theorems.proofs.SessionLaws.{SessionOk, opened-ok, next-ok, more-at, last-at, more-length, less-at}
 use Rattle.live_theorems.proofs.SeriesOfLaws.{usedIn, series-told}
 use Rattle.live_theorems.proofs.LawProof.{live-law, near-least}

@@ -22,8 +22,11 @@ use Rattle.live.proofs.LimitLaws.{not-bad, near-no-far, start-none-bad}
 use Rattle.live_theorems.specs.Runs.{Handed, slicesOf, afterCall, replies, afterAll, Within}
 use Rattle.live_theorems.specs.Sessions.{Session, opened, bracketIn, numberIn, changed, framesTold, offsetsTold, replyIn, repliesIn, sessionAfter}
 use Rattle.live_theorems.specs.LiveLaw.{starting}
-use Rattle.live_theorems.proofs.UsedLaws.{Used, Numbered, Shows, Uses, usedOf, uses-own, uses-ext, numbered-same, shows-same, badBy, numberBy, number-by, usedAfter, accepted-sizes}
-use Rattle.live_theorems.proofs.UsedLaws.{SameLengths, after-lengths, after-refused, after-uses, framesBy, offsetsBy, replyBy, reply-by}
+use Rattle.live_theorems.proofs.UsedLaws.{Used, Numbered, Shows, Uses, usedOf, uses-own, uses-ext, numbered-same, shows-same}
+use Rattle.live_theorems.proofs.NumberLaws.{badBy, numberBy, number-by}
+use Rattle.live_theorems.proofs.MadeLaws.{usedAfter, accepted-sizes, SameLengths}
+use Rattle.live_theorems.proofs.AfterLaws.{after-lengths, after-refused, after-uses}
+use Rattle.live_theorems.proofs.ReplyLaws.{framesBy, offsetsBy, replyBy, reply-by}
 use Rattle.live_theorems.proofs.SessionLaws.{SessionOk, opened-ok, changed-ok, more-at, last-at, more-length, less-at}
 use Rattle.live_theorems.proofs.SeriesOfLaws.{greyIn, usedIn, series-told}
 

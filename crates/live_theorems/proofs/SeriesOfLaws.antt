@@ -22,7 +22,8 @@ use Rattle.rules.proofs.FrameLaws.{pixel-fits}
 use Rattle.rules.proofs.PairLaws.{pair-ext}
 use Rattle.live.specs.Steps.{setupIn}
 use Rattle.live_theorems.specs.Sessions.{Session, bracketIn, allRasters, seriesOf, seriesOffsets}
-use Rattle.live_theorems.proofs.UsedLaws.{Used, list-by}
+use Rattle.live_theorems.proofs.UsedLaws.{Used}
+use Rattle.live_theorems.proofs.ReplyLaws.{list-by}
 use Rattle.live_theorems.proofs.SessionLaws.{SessionOk}
 
 -- frame k of a session

@@ -17,7 +17,11 @@ use Rattle.live.specs.Steps.{Call, Reply, numberOf, emptyOf, holding, newPair, 
 use Rattle.live.proofs.HeldLaws.{bracket-read, zero-read, bracket-same, pair-same}
 use Rattle.live_theorems.specs.Runs.{Handed, slicesOf, afterCall, replies}
 use Rattle.live_theorems.specs.UsedMemory.{Agree, Unread, ZeroPastPairs, Changes, ZerosWritten}
-use Rattle.live_theorems.proofs.UsedLaws.{Used, Uses, usedOf, uses-own, numberBy, number-by, usedAfter, accepted-sizes, step-taken, SameLengths, after-lengths, after-refused, after-uses, replyBy, reply-by}
+use Rattle.live_theorems.proofs.UsedLaws.{Used, Uses, usedOf, uses-own}
+use Rattle.live_theorems.proofs.NumberLaws.{numberBy, number-by}
+use Rattle.live_theorems.proofs.MadeLaws.{usedAfter, accepted-sizes, step-taken, SameLengths}
+use Rattle.live_theorems.proofs.AfterLaws.{after-lengths, after-refused, after-uses}
+use Rattle.live_theorems.proofs.ReplyLaws.{replyBy, reply-by}
 
 -- the same number of two lists stays the same in their first n
 take-same : {A : Type 0} (n : ℕ) (l l′ : List A) (i : ℕ) (d : A) → getD l i d ≡ getD l′ i d → getD (take n l) i d ≡ getD (take n l′) i d
