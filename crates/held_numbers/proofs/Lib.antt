@@ -1,0 +1,3 @@
+-- Laws of the numbers of a live bracket's memory.
+pub mod NumberLaws
+pub mod BadLaws
