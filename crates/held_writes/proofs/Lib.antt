@@ -1,0 +1,2 @@
+-- Laws of what is left once held numbers are written.
+pub mod WriteLaws

@@ -1,0 +1,2 @@
+-- What is left once a part of the held numbers is written.
+pub mod HeldWrites

@@ -1,0 +1,2 @@
+-- Laws of the live bracket's refusal numbers.
+pub mod LiveRefusalLaws
