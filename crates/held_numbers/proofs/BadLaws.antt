@@ -46,10 +46,6 @@ module _ (held : List ℤ) (B : Bracket) (read : B ≡ bracketOf held) where
   unfolding badHeld
   held-first e = rw (← read, e)
 
-  pub held-empty : badBracket B ≡ false → B .frames ≡ 0 → false ≡ badHeld held
-  unfolding badHeld someFar
-  held-empty e z = rw (← read, e, z)
-
   pub held-pairs : badBracket B ≡ false → (t : Bool) → t ≡ someFar (2 ^ suc (B .s) - 1) (heldPair held) (pairsIn B) → t ≡ badHeld held
   unfolding badHeld
   held-pairs e t told = rw (← read, e) told

@@ -6,7 +6,7 @@ use refusals::MAX_TOLERANCE;
 use refusals::bad_percentile;
 use work_memory::shape_refusal;
 ghost use mathlib.Core.Path.{_≡_};
-ghost use Prim.Native.Nat.{_+_, _*_, _≤_, _<_};
+ghost use Prim.Native.Nat.{_+_, _*_, _-_, _≤_, _<_};
 ghost use lib.Dec.{ltb};
 ghost use lib.IntN.{natAbs};
 ghost use lib.ListN.{length};
@@ -62,6 +62,16 @@ fn far(x: i32, bound: u32) -> bool
     most < x
 }
 
+// The pairs of so many frames.
+pub fn pairs_in(frames: usize) -> usize
+    ensures { λ r. ⌜ r ≡ frames - 1 ⌝ }
+{
+    if frames == 0 {
+        return 0;
+    }
+    frames - 1
+}
+
 // One of the first n pairs has an offset that is in size above the bound on an axis.
 fn some_far(held: &[i32], bound: u32, n: usize) -> bool
     requires { ⌜ (n < 16) × (pairPlace + 2 * n ≤ length (now held)) ⌝ }
@@ -110,9 +120,6 @@ pub fn bad_held(held: &[i32]) -> bool
     }
     let s = b.s;
     let frames = b.frames;
-    if frames == 0 {
-        return false;
-    }
     let bound = (2u32 << s) - 1;
-    some_far(held, bound, frames - 1)
+    some_far(held, bound, pairs_in(frames))
 }

@@ -1,5 +1,7 @@
 // The numbers of a live bracket's memory, written: what it says of size, settings and frames, and its pairs.
 
+use held_numbers::PAIRS;
+use held_numbers::pairs_in;
 use live::Bracket;
 use offsets::put_offset;
 use rules::Offset;
@@ -10,9 +12,6 @@ ghost use Rattle.rules.specs.Frames.{writtenOver};
 ghost use Rattle.live.specs.Held.{heldLength, heldPair, layout};
 ghost use Rattle.live.specs.HeldOk.{BracketOk};
 ghost use Rattle.held_writes.specs.HeldWrites.{firstNumbers, ZeroFrom, PairPut, PairDropped};
-
-// The numbers before those of the pairs.
-const PAIRS: usize = 6;
 
 fn clear_from(held: &mut [i32], from: usize)
     requires { ⌜ from ≤ length (now held) ⌝ }
@@ -52,13 +51,9 @@ pub fn put_bracket(held: &mut [i32], b: Bracket)
     requires { ⌜ BracketOk b ⌝ }
     ensures { λ _. ⌜ now (held .exit) ≡ layout b (heldPair (now (held .entry))) ⌝ }
 {
-    let frames = b.frames;
+    let pairs = pairs_in(b.frames);
     put_first(held, b);
-    if frames == 0 {
-        clear_from(held, PAIRS);
-        return;
-    }
-    clear_from(held, PAIRS + 2 * (frames - 1));
+    clear_from(held, PAIRS + 2 * pairs);
 }
 
 // The offset of pair k.

@@ -6,11 +6,11 @@ use native.Mathlib.Omega.{arith}
 use lib.Pow.{pow-pos}
 use borrow.Author.Needs.{needs}
 use Rattle.live.specs.declared.Bracket.{Bracket}
-use Rattle.live.specs.Held.{heldPair, pairsIn}
+use Rattle.live.specs.Held.{heldPair}
 use Rattle.live.specs.HeldOk.{BracketOk}
 use Rattle.live.specs.Steps.{someFar, badBracket}
 use Rattle.live.proofs.LimitLaws.{bracket-ok}
-use Rattle.held_numbers.proofs.BadLaws.{bound-is, bound-small, held-first, held-empty, held-pairs}
+use Rattle.held_numbers.proofs.BadLaws.{bound-is, bound-small, held-first, held-pairs}
 use Rattle.held_numbers.proofs.bad_held.Statement.{statement}
 use Rattle.held_numbers.proofs.bad_held.Tie as tie
 
@@ -39,33 +39,29 @@ module _ (c : tie.Else1) where
   bound : 2 * 2 ^ B .s % 2 ^ 32 ≡ 2 ^ suc (B .s)
   bound = bound-is (B .s) (limits .shape .halvings)
 
-returns-2 : tie.Need-returns-2
-returns-2 c =
-    let e = c .before in
-    let b = e .before .before in
-    held-empty (b .before .args .held .now) (B e) (b .bracket-of .ensures) (fine e) (c .if2 .taken)
-
 shl-bound : tie.Need-shl-bound
-shl-bound c = let k = limits (c .before) .shape .halvings in omega arith
+shl-bound c = let k = limits c .shape .halvings in omega arith
 
 sub-bound : tie.Need-sub-bound
-sub-bound c = rw (bound (c .before)) (pow-pos (suc (B (c .before) .s)))
+sub-bound c = rw (bound c) (pow-pos (suc (B c .s)))
 
-sub-some-far : tie.Need-sub-some-far
-sub-some-far c = search needs
+pairs-in-requires : tie.Need-pairs-in-requires
+pairs-in-requires c κs = search needs
 
 some-far-requires : tie.Need-some-far-requires
 some-far-requires c κs =
     let e = c .before in
     let k = limits e .frames in
+    let n = c .pairs-in .ensures in
     ((omega arith, omega arith), rw (bound e) (bound-small (B e .s) (limits e .shape .halvings)))
 
-returns-3 : tie.Need-returns-3
-returns-3 c =
+returns-2 : tie.Need-returns-2
+returns-2 c =
     let e = c .before .before in
     let b = e .before .before in
-    held-pairs (b .before .args .held .now) (B e) (b .bracket-of .ensures) (fine e) (c .some-far .result)
-    (c .some-far .ensures ∙ ap (λ (n : ℕ). someFar (n - 1) (heldPair (b .before .args .held .now)) (pairsIn (B e))) (bound e))
+    let l = b .before .args .held .now in
+    held-pairs l (B e) (b .bracket-of .ensures) (fine e) (c .some-far .result)
+    (c .some-far .ensures ∙ ap (λ (n : ℕ). someFar (n - 1) (heldPair l) (c .before .pairs-in .result)) (bound e) ∙ rw (c .before .pairs-in .ensures))
 
 pub bad-held-spec : {M : Type 1} → statement M
 bad-held-spec =
@@ -74,9 +70,8 @@ bad-held-spec =
     bracket-of-requires
     bad-bracket-requires
     returns
-    returns-2
     shl-bound
     sub-bound
-    sub-some-far
+    pairs-in-requires
     some-far-requires
-    returns-3)
+    returns-2)
