@@ -1,44 +1,50 @@
+-- The pairs after the oldest one are moved, and the bracket is written with a frame less.
+use native.Mathlib.Omega.{arith}
 use borrow.Author.Needs.{needs}
+use Rattle.live_drop.proofs.ShrinkLaws.{frames-read, limits-read, left-ok, shrunk-is}
 use Rattle.live_drop.proofs.shrink.Statement.{statement}
 use Rattle.live_drop.proofs.shrink.Tie as tie
-use Rattle.live_drop.proofs.shrink.Reads as reads
-use Rattle.live_drop.proofs.shrink.Lts as lts
-use Rattle.held_numbers.proofs.bracket_of.Reads as bracket-of-reads
-use Rattle.held_numbers.proofs.pairs_in.Reads as pairs-in-reads
-use Rattle.held_writes.proofs.drop_pair.Reads as drop-pair-reads
-use Rattle.held_writes.proofs.put_bracket.Reads as put-bracket-reads
 
--- src/lib.rt:33:9
 bracket-of-requires : tie.Need-bracket-of-requires
 bracket-of-requires c κs = search needs
 
--- src/lib.rt:40:17
 sub-pairs-in : tie.Need-sub-pairs-in
-sub-pairs-in c = ?
+sub-pairs-in c =
+    let a = c .before .before in
+    frames-read (a .args .held .now) (c .bracket-of .result) (c .bracket-of .ensures) (a .pre .1 .1)
 
--- src/lib.rt:42:26
 sub-pairs-in-2 : tie.Need-sub-pairs-in-2
-sub-pairs-in-2 c = ?
+sub-pairs-in-2 c = sub-pairs-in c
 
--- src/lib.rt:42:9
 pairs-in-requires : tie.Need-pairs-in-requires
 pairs-in-requires c κs = search needs
 
--- src/lib.rt:43:5
 drop-pair-requires : tie.Need-drop-pair-requires
-drop-pair-requires c κs = ?
+drop-pair-requires c κs =
+    let b = c .before .before in
+    let a = b .before .before in
+    let k = limits-read (a .args .held .now) (b .bracket-of .result) (b .bracket-of .ensures) (a .pre .1 .0) .frames in
+    let n = c .before .pairs-in .ensures in
+    (a .pre .0, omega arith)
 
--- src/lib.rt:44:5
 put-bracket-requires : tie.Need-put-bracket-requires
-put-bracket-requires c κs = ?
+put-bracket-requires c κs =
+    let d = c .before .before in
+    let b = d .before .before .before in
+    let a = b .before .before in
+    let size = d .drop-pair .ensures .len in
+    (omega arith, left-ok (a .args .held .now) (b .bracket-of .result) (b .bracket-of .ensures) (a .pre .1 .0))
 
--- src/lib.rt:21:1
 same-length : tie.Need-same-length
 same-length c = search needs
 
--- src/lib.rt:21:1
 returns : tie.Need-returns
-returns c = ?
+returns c =
+    let d = c .before .before .before .before in
+    let p = d .before .before in
+    let b = p .before in
+    shrunk-is (b .before .before .args .held .now) (b .bracket-of .result) (b .bracket-of .ensures) (p .pairs-in .result) (d .drop-pair .last .0) (c .before .put-bracket .last .0)
+    (p .pairs-in .ensures) (d .drop-pair .ensures) (c .before .put-bracket .ensures)
 
 pub shrink-spec : {M : Type 1} → statement M
 shrink-spec =

@@ -1,55 +1,91 @@
+-- The series' own function tells the offsets from the part of the numbers that holds the pairs.
+use mathlib.Core.Path.{_≡_, sym, ap, _∙_}
+use native.Mathlib.Omega.{arith}
 use borrow.Author.Needs.{needs}
+use lib.ListN.{length}
+use Rattle.rules.specs.Levels.{leastMoveOrder}
+use Rattle.live.specs.declared.Bracket.{Bracket}
+use Rattle.live.specs.Held.{Memory, memoryOf, bracketOf}
+use Rattle.live.specs.Steps.{Call, badHeld, numberOf, tellNumber, framesIn, offsetsIn}
+use Rattle.live.proofs.StepLaws.{refused-tells, accepted-tells}
+use Rattle.live_tell.proofs.ToldLaws.{told-ok, few, room, pairs-room, pairs-small, told-none, told-some}
 use Rattle.live_tell.proofs.tell.Statement.{statement}
 use Rattle.live_tell.proofs.tell.Tie as tie
-use Rattle.live_tell.proofs.tell.Reads as reads
-use Rattle.live_tell.proofs.tell.Lts as lts
-use Rattle.held_numbers.proofs.bracket_of.Reads as bracket-of-reads
-use Rattle.live_refusals.proofs.tell_refusal.Reads as tell-refusal-reads
-use Rattle.offsets.proofs.frame_offsets.Reads as frame-offsets-reads
 
--- src/lib.rt:17:9
 tell-refusal-requires : tie.Need-tell-refusal-requires
 tell-refusal-requires c κs = search needs
 
--- src/lib.rt:19:9
+-- the memory as the call finds it, and the call
+module _ (c : tie.After-tell-refusal) where
+  abbrev memory : Memory
+  memory = let a = c .before .before .args in memoryOf (a .held .now) (a .newest .now)
+
+  abbrev call : Call
+  call = Call.Tell (length (c .before .before .args .offsets .now))
+
+  number : c .tell-refusal .result ≡ numberOf memory call
+  unfolding numberOf
+  number = c .tell-refusal .ensures
+
 returns : tie.Need-returns
-returns c = ?
+returns c =
+    refused-tells leastMoveOrder (memory (c .before)) (call (c .before)) (c .before .tell-refusal .result) (number (c .before)) (c .if1 .taken)
+    (c .before .before .before .args .offsets .now)
 
--- src/lib.rt:21:9
+none : (c : tie.Else1)
+    → let l = c .before .before .before .args .held .now in
+    tellNumber (badHeld l) (bracketOf l) (length l) (length (c .before .before .before .args .newest .now)) (length (c .before .before .before .args .offsets .now)) ≡ 0
+none c = sym (c .before .tell-refusal .ensures) ∙ c .if1 .left
+
 bracket-of-requires : tie.Need-bracket-of-requires
-bracket-of-requires c κs = ?
+bracket-of-requires c κs = let k = told-ok _ _ _ (none c) .exact1 in omega arith
 
--- src/lib.rt:24:9
 returns-2 : tie.Need-returns-2
-returns-2 c = ?
+unfolding framesIn offsetsIn
+returns-2 c =
+    let b = c .before in
+    let e = b .before in
+    let a = e .before .before .before .args in
+    accepted-tells leastMoveOrder (memory (e .before)) (call (e .before)) (e .before .tell-refusal .result) (number (e .before)) (e .if1 .left)
+    0 (a .offsets .now) (a .offsets .now) (sym (c .if2 .taken) ∙ ap (λ (K : Bracket). K .frames) (b .bracket-of .ensures))
+    (told-none (a .held .now) _ _ (none e) (b .bracket-of .result) (b .bracket-of .ensures) (c .if2 .taken) (a .offsets .now))
 
--- src/lib.rt:26:19
 sub-frame-offsets : tie.Need-sub-frame-offsets
-sub-frame-offsets c = ?
+sub-frame-offsets c = let k = told-ok _ _ _ (none (c .before .before)) .exact1 in omega arith
 
--- src/lib.rt:26:19
 part-frame-offsets-start : tie.Need-part-frame-offsets-start
-part-frame-offsets-start c = ?
+part-frame-offsets-start c = let k = told-ok _ _ _ (none (c .before .before)) .exact1 in omega arith
 
--- src/lib.rt:26:19
 part-frame-offsets-end : tie.Need-part-frame-offsets-end
 part-frame-offsets-end c = search needs
 
--- src/lib.rt:26:5
 frame-offsets-requires : tie.Need-frame-offsets-requires
-frame-offsets-requires c κs = ?
+frame-offsets-requires c κs =
+    let b = c .before .before .before in
+    let n = none (b .before) in
+    let l = b .before .before .before .before .args .held .now in
+    let f = few l _ _ n (b .bracket-of .result) (b .bracket-of .ensures) in
+    ((omega arith, omega arith), (pairs-room l _ _ n (b .bracket-of .result) (b .bracket-of .ensures),
+    (room l _ _ n (b .bracket-of .result) (b .bracket-of .ensures), pairs-small l _ _ n (b .bracket-of .result) (b .bracket-of .ensures))))
 
--- src/lib.rt:27:18
 cast-t16 : tie.Need-cast-t16
-cast-t16 c = ?
+cast-t16 c =
+    let b = c .before .before .before .before .before in
+    let f = few _ _ _ (none (b .before)) (b .bracket-of .result) (b .bracket-of .ensures) in
+    omega arith
 
--- src/lib.rt:12:1
 same-length : tie.Need-same-length
 same-length c = search needs
 
--- src/lib.rt:12:1
 returns-3 : tie.Need-returns-3
-returns-3 c = ?
+unfolding framesIn offsetsIn
+returns-3 c =
+    let b = c .before .before .before .before .before in
+    let e = b .before in
+    let a = e .before .before .before .args in
+    accepted-tells leastMoveOrder (memory (e .before)) (call (e .before)) (e .before .tell-refusal .result) (number (e .before)) (e .if1 .left)
+    (b .bracket-of .result .frames) (a .offsets .now) (c .before .frame-offsets .last .1 .1 .1 .0) (ap (λ (K : Bracket). K .frames) (b .bracket-of .ensures))
+    (told-some (a .held .now) _ _ (none e) (b .bracket-of .result) (b .bracket-of .ensures) (a .offsets .now) (c .before .frame-offsets .last .1 .1 .1 .0) (c .before .frame-offsets .ensures))
 
 pub tell-spec : {M : Type 1} → statement M
 tell-spec =

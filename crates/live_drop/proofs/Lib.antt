@@ -1,0 +1,2 @@
+-- Laws of a live bracket without its oldest frame.
+pub mod ShrinkLaws

@@ -1,0 +1,2 @@
+-- Laws of the offsets that a live bracket tells.
+pub mod ToldLaws
