@@ -1,0 +1,2 @@
+-- Laws of the newest frame.
+pub mod NewestLaws
