@@ -30,6 +30,15 @@ module _ (order : List Offset) (m : Memory) (c : Call) (n : ℕ) (number : n ≡
   unfolding step
   accepted-leaves z numbers′ newest′ e = record { answered = rw (sym number ∙ z); memoryIs = rw (sym number ∙ z) e }
 
+  -- the same with work memory
+  pub refused-work : (n ≡ 0 → ⊥) → (grey words : List ℕ) → LeavesWork (step order m c) (m .numbers) (m .newest) grey grey words words (Written.Refused n)
+  refused-work l grey words = record { held = refused-leaves l; memoryKept = λ f. (refl, refl) }
+
+  pub accepted-work : n ≡ 0 → (numbers′ : List ℤ) (newest′ grey grey′ words words′ : List ℕ) → memoryOf numbers′ newest′ ≡ made order m c
+      → LeavesWork (step order m c) numbers′ newest′ grey grey′ words words′ Written.Done
+  unfolding step
+  accepted-work z numbers′ newest′ grey grey′ words words′ e = record { held = accepted-leaves z numbers′ newest′ e; memoryKept = λ f. absurd (f (sym number ∙ z)) }
+
   -- a call that tells
   pub refused-tells : (n ≡ 0 → ⊥) → (offsets : List ℤ) → Tells (step order m c) offsets offsets (Told.Refused n)
   unfolding step

@@ -1,0 +1,2 @@
+-- Laws of a live bracket with one frame more.
+pub mod GrowLaws
