@@ -6,6 +6,7 @@ use Rattle.rules.specs.declared.Written.{Written}
 use Rattle.rules.specs.declared.Offset.{Offset}
 use Rattle.rules.specs.declared.Paired.{Paired}
 use Rattle.rotation.specs.declared.Rotation.{Rotation}
+use Rattle.live.specs.declared.Told.{Told}
 
 -- what a pointer's place holds after a call with this refusal number: the value, or what it held
 abbrev pub valueAfter : {A : Type 0} → ℕ → A → A → A
@@ -40,3 +41,12 @@ abbrev pub turnedAfter : Rotation → Bool → Bool
 turnedAfter Rotation.Turned before = true
 turnedAfter Rotation.NotTurned before = false
 turnedAfter (Rotation.Refused n) before = before
+
+-- the same of the answer that tells a live bracket's offsets, with what stands behind the pointer that tells of how many frames
+abbrev pub toldRefusalIn : Told → ℕ
+toldRefusalIn (Told.Frames n) = 0
+toldRefusalIn (Told.Refused n) = n
+
+abbrev pub framesAfter : Told → ℕ → ℕ
+framesAfter (Told.Frames n) before = n
+framesAfter (Told.Refused n) before = before

@@ -1,10 +1,11 @@
 // Answers as C gets them: a number, and values behind pointers.
 
+use live::Told;
 use rotation::Rotation;
 use rules::Paired;
 use rules::Written;
 ghost use mathlib.Core.Path.{_≡_};
-ghost use Rattle.c_answers.specs.Values.{refusalIn, pairRefusalIn, offset, offsetAfter, rotationRefusalIn, turnedAfter};
+ghost use Rattle.c_answers.specs.Values.{refusalIn, pairRefusalIn, offset, offsetAfter, rotationRefusalIn, turnedAfter, toldRefusalIn, framesAfter};
 
 // The refusal number of an answer, 0 when the call was accepted.
 pub fn refusal_in(answer: Written) -> u32
@@ -48,5 +49,19 @@ pub fn turned_into(answer: Rotation, turned: &mut bool) -> u32
             0
         }
         Rotation::Refused(n) => n,
+    }
+}
+
+// The same of the answer that tells a live bracket's offsets: of how many frames goes behind the pointer.
+pub fn told_into(answer: Told, frames: &mut u32) -> u32
+    ensures frames { λ _. ⌜ now (frames .exit) ≡ framesAfter answer (now (frames .entry)) ⌝ }
+    ensures number { λ r. ⌜ r ≡ toldRefusalIn answer ⌝ }
+{
+    match answer {
+        Told::Frames(n) => {
+            *frames = n;
+            0
+        }
+        Told::Refused(n) => n,
     }
 }

@@ -23,13 +23,7 @@ ghost use Rattle.live.specs.LiveCalls.{AddCall};
 
 // The memory with one frame more. The first frame makes no pair; each other one is aligned with the newest,
 // and nothing else is.
-fn grow(
-    held: &mut [i32],
-    newest: &mut [u8],
-    raster: &[u8],
-    grey: &mut [u8],
-    words: &mut [u64],
-)
+fn grow(held: &mut [i32], newest: &mut [u8], raster: &[u8], grey: &mut [u8], words: &mut [u64])
     requires limits { ⌜ BracketOk (bracketOf (now held)) ⌝ }
     requires accepted { ⌜
         AddOk false (bracketOf (now held)) (length (now held)) (length (now newest)) (length (now raster)) (length (now grey)) (length (now words))

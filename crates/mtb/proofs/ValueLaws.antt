@@ -32,7 +32,10 @@ use Rattle.rotation.specs.declared.Rotation.{Rotation}
 use Rattle.rotation.specs.Turns.{turned, rotation}
 use Rattle.rotation.proofs.TurnLaws.{rotation-refused}
 use Rattle.quadrants.specs.QuadrantsCalls.{QuadrantsLeft}
-use Rattle.c_answers.specs.Values.{valueAfter, refusalIn, pairRefusalIn, offsetAfter, rotationRefusalIn, turnedAfter}
+use Rattle.live.specs.declared.Told.{Told}
+use Rattle.live.specs.Steps.{Step}
+use Rattle.live.specs.LiveCalls.{Leaves, LeavesWork, told, Tells}
+use Rattle.c_answers.specs.Values.{valueAfter, refusalIn, pairRefusalIn, offsetAfter, rotationRefusalIn, turnedAfter, toldRefusalIn, framesAfter}
 
 -- A pointer's place after an accepted call, and after a refused one.
 pub value-accepted : {A : Type 0} (k : ℕ) (value x before : A) → 0 ≡ k → x ≡ value → x ≡ valueAfter k value before
@@ -177,3 +180,26 @@ pub series-left : (number : ℕ) (result : Answer) (offsets offsets′ : List �
 series-left number result offsets offsets′ counts counts′ compared compared′ grey grey′ words words′ r n left e =
     subst (SeriesLeft number result offsets offsets′ counts counts′ compared compared′ grey grey′ words words′)
     (left .answered ∙ sym (answer-is number n r e (left .answered))) left
+
+-- the calls of the live bracket
+pub leaves-left : (s : Step) (numbers′ : List ℤ) (newest′ : List ℕ) (r : Written) (n : ℕ) → Leaves s numbers′ newest′ r → n ≡ refusalIn r → Leaves s numbers′ newest′ (written n)
+leaves-left s numbers′ newest′ r n left e = record { answered = answer-is (s .reply .number) n r e (left .answered); memoryIs = left .memoryIs }
+
+pub work-left : (s : Step) (numbers′ : List ℤ) (newest′ grey grey′ words words′ : List ℕ) (r : Written) (n : ℕ) → LeavesWork s numbers′ newest′ grey grey′ words words′ r → n ≡ refusalIn r
+    → LeavesWork s numbers′ newest′ grey grey′ words words′ (written n)
+work-left s numbers′ newest′ grey grey′ words words′ r n left e = record { held = leaves-left s numbers′ newest′ r n (left .held) e; memoryKept = left .memoryKept }
+
+told-refused : (k frames n : ℕ) → Told.Refused n ≡ told k frames → n ≡ 0 → ⊥
+told-refused zero frames n e z = let y : _≡_ {A = ℕ} 0 1 = cc in absurd (omega arith)
+told-refused (suc k) frames n e z = let d : n ≡ suc k = cc in omega arith
+
+told-made : (n frames : ℕ) → (n ≡ 0 → ⊥) → told n frames ≡ Told.Refused n
+told-made zero frames l = absurd (l refl)
+told-made (suc n) frames l = refl
+
+pub tells-left : (s : Step) (offsets offsets′ : List ℤ) (r : Told) (n before after : ℕ) → Tells s offsets offsets′ r → after ≡ framesAfter r before → n ≡ toldRefusalIn r
+    → Tells s offsets offsets′ (told n after) × ((n ≡ 0 → ⊥) → after ≡ before)
+tells-left s offsets offsets′ (Told.Frames frames) n before after left o e = (rw (e, o) left, λ f. absurd (f e))
+tells-left s offsets offsets′ (Told.Refused k) n before after left o e =
+    let l = told-refused (s .reply .number) (s .reply .frames) k (left .answered) in
+    (rw (e, told-made k after l) left, λ f. o)

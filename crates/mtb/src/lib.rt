@@ -3,5 +3,6 @@
 mod alignment;
 mod bitmaps;
 mod greys;
+mod live_bracket;
 mod p6;
 mod views;

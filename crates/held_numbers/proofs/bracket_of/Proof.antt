@@ -5,71 +5,52 @@ use Rattle.held_numbers.proofs.NumberLaws.{passed}
 use borrow.Author.Needs.{needs}
 use Rattle.held_numbers.proofs.bracket_of.Statement.{statement}
 use Rattle.held_numbers.proofs.bracket_of.Tie as tie
-use Rattle.held_numbers.proofs.bracket_of.Reads as reads
-use Rattle.held_numbers.proofs.bracket_of.Lts as lts
-use Rattle.held_numbers.proofs.natural.Reads as natural-reads
 
--- src/lib.rt:37:21
 shared-slice-copy-out-natural : tie.Need-shared-slice-copy-out-natural
 shared-slice-copy-out-natural c = search needs
 
--- src/lib.rt:37:13
 natural-requires : tie.Need-natural-requires
 natural-requires c κs = search needs
 
--- src/lib.rt:37:13
 cast-w : tie.Need-cast-w
 cast-w c = search needs
 
--- src/lib.rt:38:21
 shared-slice-copy-out-natural-2 : tie.Need-shared-slice-copy-out-natural-2
 shared-slice-copy-out-natural-2 c = search needs
 
--- src/lib.rt:38:13
 natural-requires-2 : tie.Need-natural-requires-2
 natural-requires-2 c κs = search needs
 
--- src/lib.rt:38:13
 cast-h : tie.Need-cast-h
 cast-h c = search needs
 
--- src/lib.rt:39:21
 shared-slice-copy-out-natural-3 : tie.Need-shared-slice-copy-out-natural-3
 shared-slice-copy-out-natural-3 c = search needs
 
--- src/lib.rt:39:9
 natural-requires-3 : tie.Need-natural-requires-3
 natural-requires-3 c κs = search needs
 
--- src/lib.rt:40:29
 shared-slice-copy-out-natural-4 : tie.Need-shared-slice-copy-out-natural-4
 shared-slice-copy-out-natural-4 c = search needs
 
--- src/lib.rt:40:9
 natural-requires-4 : tie.Need-natural-requires-4
 natural-requires-4 c κs = search needs
 
--- src/lib.rt:41:30
 shared-slice-copy-out-natural-5 : tie.Need-shared-slice-copy-out-natural-5
 shared-slice-copy-out-natural-5 c = search needs
 
--- src/lib.rt:41:9
 natural-requires-5 : tie.Need-natural-requires-5
 natural-requires-5 c κs = search needs
 
--- src/lib.rt:42:26
 shared-slice-copy-out-natural-6 : tie.Need-shared-slice-copy-out-natural-6
 shared-slice-copy-out-natural-6 c = search needs
 
--- src/lib.rt:42:18
 natural-requires-6 : tie.Need-natural-requires-6
 natural-requires-6 c κs = search needs
 
--- src/lib.rt:42:18
 cast-frames : tie.Need-cast-frames
 cast-frames c = search needs
 
--- src/lib.rt:33:1
 returns : tie.Need-returns
 unfolding bracketOf
 returns c =

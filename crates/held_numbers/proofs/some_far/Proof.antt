@@ -11,9 +11,6 @@ use Rattle.live.specs.Held.{heldPair}
 use Rattle.live.specs.Steps.{someFar}
 use Rattle.held_numbers.proofs.some_far.Statement.{statement}
 use Rattle.held_numbers.proofs.some_far.Tie as tie
-use Rattle.held_numbers.proofs.some_far.Reads as reads
-use Rattle.held_numbers.proofs.some_far.Lts as lts
-use Rattle.held_numbers.proofs.far.Reads as far-reads
 
 abbrev Inv-loop : tie.InvT-loop
 Inv-loop held bound n k₀ k = (k ≤ n) × (someFar bound (heldPair held) k ≡ false)
@@ -21,44 +18,34 @@ Inv-loop held bound n k₀ k = (k ≤ n) × (someFar bound (heldPair held) k ≡
 abbrev μ-loop : tie.MeasureT-loop
 μ-loop held bound n k₀ k = n - k
 
--- src/lib.rt:72:5
 loop-holds : tie.Need-loop-holds Inv-loop μ-loop
 unfolding someFar
 loop-holds c = (omega arith, refl)
 
--- src/lib.rt:73:26
 mul-at : tie.Need-mul-at Inv-loop μ-loop
 mul-at c = search needs
 
--- src/lib.rt:73:18
 add-at : tie.Need-add-at Inv-loop μ-loop
 add-at c = search needs
 
--- src/lib.rt:74:18
 mul-dx : tie.Need-mul-dx Inv-loop μ-loop
 mul-dx c = search needs
 
--- src/lib.rt:74:18
 shared-slice-copy-out-dx : tie.Need-shared-slice-copy-out-dx Inv-loop μ-loop
 shared-slice-copy-out-dx c = search needs
 
--- src/lib.rt:75:23
 add-dy : tie.Need-add-dy Inv-loop μ-loop
 add-dy c = search needs
 
--- src/lib.rt:75:18
 mul-dy : tie.Need-mul-dy Inv-loop μ-loop
 mul-dy c = search needs
 
--- src/lib.rt:75:18
 shared-slice-copy-out-dy : tie.Need-shared-slice-copy-out-dy Inv-loop μ-loop
 shared-slice-copy-out-dy c = search needs
 
--- src/lib.rt:76:12
 far-requires : tie.Need-far-requires Inv-loop μ-loop
 far-requires c κs = search needs
 
--- src/lib.rt:76:29
 far-requires-2 : tie.Need-far-requires-2 Inv-loop μ-loop
 far-requires-2 c κs = search needs
 
@@ -85,22 +72,18 @@ returns c =
     let a = l .before .args in
     sym (far-here (a .bound) (heldPair (a .held .now)) (l .loop .k) _ _ (told-dx (c .before)) (told-dy (c .before)) (a .n) (omega arith) (c .if1 .taken))
 
--- src/lib.rt:79:9
 add-k : tie.Need-add-k Inv-loop μ-loop
 add-k c = search needs
 
--- src/lib.rt:72:5
 loop-less : tie.Need-loop-less Inv-loop μ-loop
 loop-less c = search needs
 
--- src/lib.rt:72:5
 loop-again : tie.Need-loop-again Inv-loop μ-loop
 loop-again c =
     let l = lp (c .before) in
     let a = l .before .args in
     (omega arith, far-none (a .bound) (heldPair (a .held .now)) (l .loop .k) _ _ (told-dx (c .before)) (told-dy (c .before)) (l .loop .inv .1) (c .if1 .left))
 
--- src/lib.rt:66:1
 returns-2 : tie.Need-returns-2 Inv-loop μ-loop
 returns-2 c =
     let e : c .before .loop .k ≡ c .before .before .args .n = omega arith in

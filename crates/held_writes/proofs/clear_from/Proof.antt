@@ -5,8 +5,6 @@ use native.Mathlib.Omega.{arith}
 use borrow.Author.Needs.{needs}
 use Rattle.held_writes.proofs.clear_from.Statement.{statement}
 use Rattle.held_writes.proofs.clear_from.Tie as tie
-use Rattle.held_writes.proofs.clear_from.Reads as reads
-use Rattle.held_writes.proofs.clear_from.Lts as lts
 
 abbrev Inv-loop : tie.InvT-loop
 Inv-loop held₀ from i₀ held i = (from ≤ i) × (i ≤ length held₀) × ZeroUpTo from i held₀ held
@@ -14,27 +12,21 @@ Inv-loop held₀ from i₀ held i = (from ≤ i) × (i ≤ length held₀) × Ze
 abbrev μ-loop : tie.MeasureT-loop
 μ-loop held₀ from i₀ held i = length held₀ - i
 
--- src/lib.rt:22:5
 loop-holds : tie.Need-loop-holds Inv-loop μ-loop
 loop-holds c = (omega arith, omega arith, zero-none (c .args .from) (c .args .held .now))
 
--- src/lib.rt:23:9
 mul-held : tie.Need-mul-held Inv-loop μ-loop
 mul-held c = search needs
 
--- src/lib.rt:23:9
 slice-set-of-held : tie.Need-slice-set-of-held Inv-loop μ-loop
 slice-set-of-held c = search needs
 
--- src/lib.rt:24:9
 add-i : tie.Need-add-i Inv-loop μ-loop
 add-i c = search needs
 
--- src/lib.rt:22:5
 loop-less : tie.Need-loop-less Inv-loop μ-loop
 loop-less c = search needs
 
--- src/lib.rt:22:5
 loop-again : tie.Need-loop-again Inv-loop μ-loop
 loop-again c =
     let a = c .before .before .args in
@@ -42,11 +34,9 @@ loop-again c =
     let same = l .inv .2 .len in
     (omega arith, omega arith, zero-more (a .from) (l .i) (a .held .now) (l .held) (l .inv .0) (omega arith) (l .inv .2))
 
--- src/lib.rt:17:1
 same-length : tie.Need-same-length Inv-loop μ-loop
 same-length c = c .before .loop .inv .2 .len
 
--- src/lib.rt:17:1
 returns : tie.Need-returns Inv-loop μ-loop
 returns c =
     let a = c .before .before .args in

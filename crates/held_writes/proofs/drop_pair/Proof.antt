@@ -7,8 +7,6 @@ use native.Mathlib.Omega.{arith}
 use borrow.Author.Needs.{needs}
 use Rattle.held_writes.proofs.drop_pair.Statement.{statement}
 use Rattle.held_writes.proofs.drop_pair.Tie as tie
-use Rattle.held_writes.proofs.drop_pair.Reads as reads
-use Rattle.held_writes.proofs.drop_pair.Lts as lts
 
 abbrev Inv-loop : tie.InvT-loop
 Inv-loop held₀ n end i₀ held i = (pairPlace ≤ i) × (i ≤ end) × MovedUpTo i held₀ held
@@ -16,47 +14,36 @@ Inv-loop held₀ n end i₀ held i = (pairPlace ≤ i) × (i ≤ end) × MovedUp
 abbrev μ-loop : tie.MeasureT-loop
 μ-loop held₀ n end i₀ held i = end - i
 
--- src/lib.rt:79:23
 mul-end : tie.Need-mul-end Inv-loop μ-loop
 mul-end c = search needs
 
--- src/lib.rt:79:15
 add-end : tie.Need-add-end Inv-loop μ-loop
 add-end c = search needs
 
--- src/lib.rt:81:5
 loop-holds : tie.Need-loop-holds Inv-loop μ-loop
 loop-holds c = (omega arith, omega arith, moved-none (c .args .held .now))
 
--- src/lib.rt:82:27
 add-number : tie.Need-add-number Inv-loop μ-loop
 add-number c = search needs
 
--- src/lib.rt:82:22
 mul-number : tie.Need-mul-number Inv-loop μ-loop
 mul-number c = search needs
 
--- src/lib.rt:82:22
 slice-copy-out-number : tie.Need-slice-copy-out-number Inv-loop μ-loop
 slice-copy-out-number c = let same = c .before .loop .inv .2 .len in omega arith
 
--- src/lib.rt:83:9
 mul-number-2 : tie.Need-mul-number-2 Inv-loop μ-loop
 mul-number-2 c = search needs
 
--- src/lib.rt:83:9
 slice-set-from-number : tie.Need-slice-set-from-number Inv-loop μ-loop
 slice-set-from-number c = let same = c .before .before .loop .inv .2 .len in omega arith
 
--- src/lib.rt:84:9
 add-i : tie.Need-add-i Inv-loop μ-loop
 add-i c = search needs
 
--- src/lib.rt:81:5
 loop-less : tie.Need-loop-less Inv-loop μ-loop
 loop-less c = search needs
 
--- src/lib.rt:81:5
 loop-again : tie.Need-loop-again Inv-loop μ-loop
 loop-again c =
     let a = c .before .before .before .args in
@@ -64,11 +51,9 @@ loop-again c =
     let same = l .inv .2 .len in
     (omega arith, omega arith, moved-more (l .i) (a .held .now) (l .held) _ (omega arith) (toZ-ofZ (record { sfits = c .number .given })) (l .inv .2))
 
--- src/lib.rt:74:1
 same-length : tie.Need-same-length Inv-loop μ-loop
 same-length c = c .before .loop .inv .2 .len
 
--- src/lib.rt:74:1
 returns : tie.Need-returns Inv-loop μ-loop
 returns c =
     let a = c .before .before .args in

@@ -4,37 +4,25 @@ use Rattle.held_writes.proofs.WriteLaws.{bracket-put}
 use borrow.Author.Needs.{needs}
 use Rattle.held_writes.proofs.put_bracket.Statement.{statement}
 use Rattle.held_writes.proofs.put_bracket.Tie as tie
-use Rattle.held_writes.proofs.put_bracket.Reads as reads
-use Rattle.held_writes.proofs.put_bracket.Lts as lts
-use Rattle.held_numbers.proofs.pairs_in.Reads as pairs-in-reads
-use Rattle.held_writes.proofs.clear_from.Reads as clear-from-reads
-use Rattle.held_writes.proofs.put_first.Reads as put-first-reads
 
--- src/lib.rt:54:9
 pairs-in-requires : tie.Need-pairs-in-requires
 pairs-in-requires c κs = search needs
 
--- src/lib.rt:55:5
 put-first-requires : tie.Need-put-first-requires
 put-first-requires c κs = search needs
 
--- src/lib.rt:56:30
 mul-clear-from : tie.Need-mul-clear-from
 mul-clear-from c = search needs
 
--- src/lib.rt:56:22
 add-clear-from : tie.Need-add-clear-from
 add-clear-from c = search needs
 
--- src/lib.rt:56:5
 clear-from-requires : tie.Need-clear-from-requires
 clear-from-requires c κs = search needs
 
--- src/lib.rt:49:1
 same-length : tie.Need-same-length
 same-length c = search needs
 
--- src/lib.rt:49:1
 returns : tie.Need-returns
 returns c =
     let p = c .before .before .before .before in

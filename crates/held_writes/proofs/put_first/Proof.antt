@@ -5,62 +5,46 @@ use native.Mathlib.Omega.{arith}
 use borrow.Author.Needs.{needs}
 use Rattle.held_writes.proofs.put_first.Statement.{statement}
 use Rattle.held_writes.proofs.put_first.Tie as tie
-use Rattle.held_writes.proofs.put_first.Reads as reads
-use Rattle.held_writes.proofs.put_first.Lts as lts
 
--- src/lib.rt:41:15
 cast-held : tie.Need-cast-held
 cast-held c = search needs
 
--- src/lib.rt:41:5
 slice-set-from-held : tie.Need-slice-set-from-held
 slice-set-from-held c = search needs
 
--- src/lib.rt:42:15
 cast-held-2 : tie.Need-cast-held-2
 cast-held-2 c = search needs
 
--- src/lib.rt:42:5
 slice-set-from-held-2 : tie.Need-slice-set-from-held-2
 slice-set-from-held-2 c = simp length-set (omega arith)
 
--- src/lib.rt:43:15
 cast-held-3 : tie.Need-cast-held-3
 cast-held-3 c = search needs
 
--- src/lib.rt:43:5
 slice-set-from-held-3 : tie.Need-slice-set-from-held-3
 slice-set-from-held-3 c = simp length-set (omega arith)
 
--- src/lib.rt:44:15
 cast-held-4 : tie.Need-cast-held-4
 cast-held-4 c = search needs
 
--- src/lib.rt:44:5
 slice-set-from-held-4 : tie.Need-slice-set-from-held-4
 slice-set-from-held-4 c = simp length-set (omega arith)
 
--- src/lib.rt:45:15
 cast-held-5 : tie.Need-cast-held-5
 cast-held-5 c = search needs
 
--- src/lib.rt:45:5
 slice-set-from-held-5 : tie.Need-slice-set-from-held-5
 slice-set-from-held-5 c = simp length-set (omega arith)
 
--- src/lib.rt:46:15
 cast-held-6 : tie.Need-cast-held-6
 cast-held-6 c = search needs
 
--- src/lib.rt:46:5
 slice-set-from-held-6 : tie.Need-slice-set-from-held-6
 slice-set-from-held-6 c = simp length-set (omega arith)
 
--- src/lib.rt:28:1
 same-length : tie.Need-same-length
 same-length c = search needs
 
--- src/lib.rt:28:1
 returns : tie.Need-returns
 returns c =
     let b = c .args .b in

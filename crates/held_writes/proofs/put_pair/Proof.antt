@@ -4,31 +4,22 @@ use native.Mathlib.Omega.{arith}
 use borrow.Author.Needs.{needs}
 use Rattle.held_writes.proofs.put_pair.Statement.{statement}
 use Rattle.held_writes.proofs.put_pair.Tie as tie
-use Rattle.held_writes.proofs.put_pair.Reads as reads
-use Rattle.held_writes.proofs.put_pair.Lts as lts
-use Rattle.offsets.proofs.put_offset.Reads as put-offset-reads
 
--- src/lib.rt:70:16
 sub-put-offset : tie.Need-sub-put-offset
 sub-put-offset c = search needs
 
--- src/lib.rt:70:16
 part-put-offset-start : tie.Need-part-put-offset-start
 part-put-offset-start c = search needs
 
--- src/lib.rt:70:16
 part-put-offset-end : tie.Need-part-put-offset-end
 part-put-offset-end c = search needs
 
--- src/lib.rt:70:5
 put-offset-requires : tie.Need-put-offset-requires
 put-offset-requires c κs = search needs
 
--- src/lib.rt:65:1
 same-length : tie.Need-same-length
 same-length c = search needs
 
--- src/lib.rt:65:1
 returns : tie.Need-returns
 returns c =
     let a = c .before .before .before in

@@ -64,9 +64,13 @@ frame-offsets-requires c κs =
     let b = c .before .before .before in
     let n = none (b .before) in
     let l = b .before .before .before .before .args .held .now in
-    let f = few l _ _ n (b .bracket-of .result) (b .bracket-of .ensures) in
-    ((omega arith, omega arith), (pairs-room l _ _ n (b .bracket-of .result) (b .bracket-of .ensures),
-    (room l _ _ n (b .bracket-of .result) (b .bracket-of .ensures), pairs-small l _ _ n (b .bracket-of .result) (b .bracket-of .ensures))))
+    let f = few l _ _ n (b .bracket-of .result) (b .bracket-of .ensures) in (
+      (omega arith, omega arith),
+      (
+        pairs-room l _ _ n (b .bracket-of .result) (b .bracket-of .ensures),
+        (room l _ _ n (b .bracket-of .result) (b .bracket-of .ensures), pairs-small l _ _ n (b .bracket-of .result) (b .bracket-of .ensures)),
+      ),
+    )
 
 cast-t16 : tie.Need-cast-t16
 cast-t16 c =

@@ -8,12 +8,7 @@ use Rattle.newest_frame.proofs.NewestLaws.{newest-frames, newest-aligne
 use borrow.Author.Needs.{needs}
 use Rattle.newest_frame.proofs.align_newest.Statement.{statement}
 use Rattle.newest_frame.proofs.align_newest.Tie as tie
-use Rattle.newest_frame.proofs.align_newest.Reads as reads
-use Rattle.newest_frame.proofs.align_newest.Lts as lts
-use Rattle.align.proofs.align_frames.Reads as align-frames-reads
-use Rattle.newest_frame.proofs.put_frames.Reads as put-frames-reads
 
--- src/lib.rt:75:5
 put-frames-requires : tie.Need-put-frames-requires
 put-frames-requires c κs =
     let s = c .before .before .before .before .before .before in
@@ -21,19 +16,15 @@ put-frames-requires c κs =
     let m = level-pixels-at (s .args .setup .s) (s .args .setup .w) (s .args .setup .h) in
     ((k .exact2, k .exact1), (k .shape .size .area, omega (arith, k .greys)))
 
--- src/lib.rt:82:9
 mul-align-frames : tie.Need-mul-align-frames
 mul-align-frames c = search needs
 
--- src/lib.rt:85:9
 slice-aggregate-align-frames : tie.Need-slice-aggregate-align-frames
 slice-aggregate-align-frames c = search needs
 
--- src/lib.rt:86:9
 slice-aggregate-align-frames-2 : tie.Need-slice-aggregate-align-frames-2
 slice-aggregate-align-frames-2 c = search needs
 
--- src/lib.rt:79:5
 align-frames-requires : tie.Need-align-frames-requires
 align-frames-requires c κs =
     let p = c .before .before .before .before .before .before .before .before .before in
@@ -45,19 +36,15 @@ align-frames-requires c κs =
       (k .bitmaps, ((omega arith, omega arith), (s .pre .1, counts-bits))),
     )
 
--- src/lib.rt:56:1
 same-length : tie.Need-same-length
 same-length c = search needs
 
--- src/lib.rt:56:1
 same-length-2 : tie.Need-same-length-2
 same-length-2 c = search needs
 
--- src/lib.rt:56:1
 same-length-3 : tie.Need-same-length-3
 same-length-3 c = search needs
 
--- src/lib.rt:56:1
 returns : tie.Need-returns
 returns c =
     let r = c .before .before .before .before .before .before in

@@ -9,8 +9,6 @@ use native.Mathlib.Omega.{arith}
 use borrow.Author.Needs.{needs}
 use Rattle.newest_frame.proofs.copy_grey.Statement.{statement}
 use Rattle.newest_frame.proofs.copy_grey.Tie as tie
-use Rattle.newest_frame.proofs.copy_grey.Reads as reads
-use Rattle.newest_frame.proofs.copy_grey.Lts as lts
 
 abbrev Inv-loop : tie.InvT-loop
 Inv-loop from grey₀ to k₀ grey k = (k ≤ length from) × RowAt to (numberAt from) grey₀ k grey
@@ -18,31 +16,24 @@ Inv-loop from grey₀ to k₀ grey k = (k ≤ length from) × RowAt to (numberAt
 abbrev μ-loop : tie.MeasureT-loop
 μ-loop from grey₀ to k₀ grey k = length from - k
 
--- src/lib.rt:25:5
 loop-holds : tie.Need-loop-holds Inv-loop μ-loop
 loop-holds c = (omega arith, row-none _ _ _)
 
--- src/lib.rt:26:24
 shared-slice-read-grey : tie.Need-shared-slice-read-grey Inv-loop μ-loop
 shared-slice-read-grey c = search needs
 
--- src/lib.rt:26:14
 add-grey : tie.Need-add-grey Inv-loop μ-loop
 add-grey c = search needs
 
--- src/lib.rt:26:9
 slice-write-grey : tie.Need-slice-write-grey Inv-loop μ-loop
 slice-write-grey c = search needs
 
--- src/lib.rt:27:9
 add-k : tie.Need-add-k Inv-loop μ-loop
 add-k c = search needs
 
--- src/lib.rt:25:5
 loop-less : tie.Need-loop-less Inv-loop μ-loop
 loop-less c = search needs
 
--- src/lib.rt:25:5
 loop-again : tie.Need-loop-again Inv-loop μ-loop
 unfolding numberAt
 loop-again c =
@@ -50,11 +41,9 @@ loop-again c =
     let a = c .before .before .before .args in
     (omega arith, row-more _ (numberAt (a .from .now)) _ (lp .k) (lp .grey) (getD (a .from .now) (lp .k) 0) (omega arith) (lp .inv .1) refl)
 
--- src/lib.rt:20:1
 same-length : tie.Need-same-length Inv-loop μ-loop
 same-length c = search needs
 
--- src/lib.rt:20:1
 returns : tie.Need-returns Inv-loop μ-loop
 returns c =
     let l = c .before .loop in

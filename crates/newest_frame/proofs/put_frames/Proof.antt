@@ -3,36 +3,25 @@ use Rattle.newest_frame.proofs.NewestLaws.{frames-put}
 use borrow.Author.Needs.{needs}
 use Rattle.newest_frame.proofs.put_frames.Statement.{statement}
 use Rattle.newest_frame.proofs.put_frames.Tie as tie
-use Rattle.newest_frame.proofs.put_frames.Reads as reads
-use Rattle.newest_frame.proofs.put_frames.Lts as lts
-use Rattle.newest_frame.proofs.copy_grey.Reads as copy-grey-reads
-use Rattle.newest_frame.proofs.replace_newest.Reads as replace-newest-reads
 
--- src/lib.rt:49:5
 copy-grey-requires : tie.Need-copy-grey-requires
 copy-grey-requires c κs = search needs
 
--- src/lib.rt:50:5
 replace-newest-requires : tie.Need-replace-newest-requires
 replace-newest-requires c κs = search needs
 
--- src/lib.rt:51:29
 mul-copy-grey : tie.Need-mul-copy-grey
 mul-copy-grey c = search needs
 
--- src/lib.rt:51:5
 copy-grey-requires-2 : tie.Need-copy-grey-requires-2
 copy-grey-requires-2 c κs = search needs
 
--- src/lib.rt:42:1
 same-length : tie.Need-same-length
 same-length c = search needs
 
--- src/lib.rt:42:1
 same-length-2 : tie.Need-same-length-2
 same-length-2 c = search needs
 
--- src/lib.rt:42:1
 returns : tie.Need-returns
 returns c =
     let two = c .before .before in

@@ -4,23 +4,16 @@ use native.Mathlib.Omega.{arith}
 use borrow.Author.Needs.{needs}
 use Rattle.newest_frame.proofs.replace_newest.Statement.{statement}
 use Rattle.newest_frame.proofs.replace_newest.Tie as tie
-use Rattle.newest_frame.proofs.replace_newest.Reads as reads
-use Rattle.newest_frame.proofs.replace_newest.Lts as lts
-use Rattle.grey.proofs.conversion.convert.Reads as convert-reads
 
--- src/lib.rt:37:21
 mul-convert : tie.Need-mul-convert
 mul-convert c = search needs
 
--- src/lib.rt:37:5
 convert-requires : tie.Need-convert-requires
 convert-requires c κs = search needs
 
--- src/lib.rt:32:1
 same-length : tie.Need-same-length
 same-length c = search needs
 
--- src/lib.rt:32:1
 returns : tie.Need-returns
 returns c =
     let d = c .before .before in
