@@ -1,12 +1,13 @@
 // The numbers of a live bracket's memory, read: what they say, and whether they break a limit.
 
 use live::Bracket;
+use live::pairs_in;
 use refusals::MAX_FRAMES;
 use refusals::MAX_TOLERANCE;
 use refusals::bad_percentile;
 use work_memory::shape_refusal;
 ghost use mathlib.Core.Path.{_≡_};
-ghost use Prim.Native.Nat.{_+_, _*_, _-_, _≤_, _<_};
+ghost use Prim.Native.Nat.{_+_, _*_, _≤_, _<_};
 ghost use lib.Dec.{ltb};
 ghost use lib.IntN.{natAbs};
 ghost use lib.ListN.{length};
@@ -60,16 +61,6 @@ fn far(x: i32, bound: u32) -> bool
         return true;
     }
     most < x
-}
-
-// The pairs of so many frames.
-pub fn pairs_in(frames: usize) -> usize
-    ensures { λ r. ⌜ r ≡ frames - 1 ⌝ }
-{
-    if frames == 0 {
-        return 0;
-    }
-    frames - 1
 }
 
 // One of the first n pairs has an offset that is in size above the bound on an axis.

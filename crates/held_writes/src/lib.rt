@@ -1,8 +1,8 @@
 // The numbers of a live bracket's memory, written: what it says of size, settings and frames, and its pairs.
 
 use held_numbers::PAIRS;
-use held_numbers::pairs_in;
 use live::Bracket;
+use live::pairs_in;
 use offsets::put_offset;
 use rules::Offset;
 ghost use mathlib.Core.Path.{_≡_};

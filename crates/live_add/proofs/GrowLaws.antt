@@ -7,6 +7,7 @@ use native.Mathlib.Omega.{arith}
 use lib.IntN.{ℤ}
 use lib.ListN.{length}
 use Rattle.rules.specs.declared.Offset.{Offset}
+use Rattle.rules.specs.Limits.{maxFrames}
 use Rattle.rules.specs.Frames.{frameOf, rows}
 use Rattle.rules.specs.Greys.{greyFrame}
 use Rattle.rules.specs.Levels.{alignedBy}
@@ -16,7 +17,7 @@ use Rattle.live.specs.HeldOk.{BracketOk, AddOk}
 use Rattle.live.specs.Steps.{holding, setupIn, newPair, extended, grown}
 use Rattle.live.proofs.HeldLaws.{layout-ext}
 use Rattle.held_writes.specs.HeldWrites.{PairPut}
-use Rattle.newest_frame.specs.NewestFrames.{NewestOk, Replaced, NewestAligned}
+use Rattle.newest_frame.specs.NewestFrames.{Replaced, NewestAligned}
 
 module _ (numbers : List ℤ) (B : Bracket) (read : B ≡ bracketOf numbers) where
   -- what is known of the bracket that was read
@@ -26,18 +27,8 @@ module _ (numbers : List ℤ) (B : Bracket) (read : B ≡ bracketOf numbers) whe
   pub accepted-read : (bad : Bool) (held newest raster grey words : ℕ) → AddOk bad (bracketOf numbers) held newest raster grey words → AddOk bad B held newest raster grey words
   accepted-read bad held newest raster grey words ok = rw read ok
 
-  pub more-ok : (bad : Bool) (held newest raster grey words : ℕ) → BracketOk (bracketOf numbers) → AddOk bad (bracketOf numbers) held newest raster grey words → BracketOk (holding B (B .frames + 1))
-  more-ok bad held newest raster grey words ok fits =
-      let k = limits-read ok in
-      let l = accepted-read bad held newest raster grey words fits .place (k .frames) in
-      record { shape = k .shape; tolerance = k .tolerance; percentile = k .percentile; frames = omega arith }
-
-  pub newest-ok : (bad : Bool) (held newest raster grey words : ℕ) → BracketOk (bracketOf numbers) → AddOk bad (bracketOf numbers) held newest raster grey words
-      → NewestOk (setupIn B) newest raster grey words
-  newest-ok bad held newest raster grey words ok fits =
-      let k = limits-read ok in
-      let a = accepted-read bad held newest raster grey words fits in
-      record { shape = k .shape; percentiles = k .percentile; exact1 = a .exact2; exact2 = a .exact3; greys = a .greys; bitmaps = a .bitmaps }
+  pub more-ok : (n : ℕ) → n ≤ maxFrames → BracketOk (bracketOf numbers) → BracketOk (holding B n)
+  more-ok n few ok = let k = limits-read ok in record { shape = k .shape; tolerance = k .tolerance; percentile = k .percentile; frames = few }
 
   -- the memory, whatever order the nine are in
   module _ (order : List Offset) (newest raster : List ℕ) (numbers′ : List ℤ) (newest′ : List ℕ) where

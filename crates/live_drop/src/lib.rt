@@ -1,10 +1,10 @@
 // The live bracket: its oldest frame is dropped.
 
 use held_numbers::bracket_of;
-use held_numbers::pairs_in;
 use held_writes::drop_pair;
 use held_writes::put_bracket;
 use live::Bracket;
+use live::pairs_in;
 use live_refusals::drop_refusal;
 use rules::Written;
 ghost use mathlib.Core.Path.{_≡_};

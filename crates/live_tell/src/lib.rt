@@ -9,6 +9,7 @@ ghost use Rattle.rules.specs.Levels.{leastMoveOrder};
 ghost use Rattle.live.specs.LiveCalls.{TellCall};
 
 // The offsets of the frames held from the oldest, dx and dy of each, oldest first; none where none is held.
+// Of the pairs only those in use are lent on.
 pub fn tell(held: &[i32], newest: &[u8], offsets: &mut [i32]) -> Told
     ensures { λ r. ⌜
         TellCall leastMoveOrder (now (held .entry)) (now (newest .entry)) (now (offsets .entry)) (now (offsets .exit)) r
@@ -23,6 +24,9 @@ pub fn tell(held: &[i32], newest: &[u8], offsets: &mut [i32]) -> Told
     if frames == 0 {
         return Told::Frames(0);
     }
-    frame_offsets(&held[PAIRS..], frames, 0, offsets);
-    Told::Frames(frames as u32)
+    let last = frames - 1;
+    let end = PAIRS + 2 * last;
+    let told = frames as u32;
+    frame_offsets(&held[PAIRS..end], frames, 0, offsets);
+    Told::Frames(told)
 }

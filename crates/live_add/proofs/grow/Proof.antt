@@ -7,13 +7,14 @@ use lib.IntN.{ℤ}
 use lib.ListN.{length}
 use borrow.Author.Needs.{needs}
 use Rattle.rules.specs.declared.Offset.{Offset}
+use Rattle.rules.specs.Limits.{maxFrames}
 use Rattle.rules.specs.Levels.{leastMoveOrder}
-use Prim.Native.Nat.{_+_}
+use Prim.Native.Nat.{ℕ, _≤_, _<_}
 use Rattle.live.specs.declared.Bracket.{Bracket}
 use Rattle.live.specs.HeldOk.{BracketOk, AddOk}
 use Rattle.live.specs.Steps.{holding, setupIn}
-use Rattle.newest_frame.specs.NewestFrames.{NewestOk, NewestAligned}
-use Rattle.live_add.proofs.GrowLaws.{limits-read, accepted-read, more-ok, newest-ok, grown-first, grown-next}
+use Rattle.newest_frame.specs.NewestFrames.{NewestAligned}
+use Rattle.live_add.proofs.GrowLaws.{limits-read, accepted-read, more-ok, grown-first, grown-next}
 use Rattle.live_add.proofs.grow.Statement.{statement}
 use Rattle.live_add.proofs.grow.Tie as tie
 
@@ -37,11 +38,11 @@ module _ (c : tie.After-bracket-of) where
   accepted : let a = start .args in AddOk false B (length (a .held .now)) (length (a .newest .now)) (length (a .raster .now)) (length (a .grey .now)) (length (a .words .now))
   accepted = accepted-read numbers B (c .bracket-of .ensures) false _ _ _ _ _ (start .pre .1)
 
-  more : BracketOk (holding B (B .frames + 1))
-  more = more-ok numbers B (c .bracket-of .ensures) false _ _ _ _ _ (start .pre .0) (start .pre .1)
+  room : B .frames < maxFrames
+  room = accepted .place (limits .frames)
 
-  ready : let a = start .args in NewestOk (setupIn B) (length (a .newest .now)) (length (a .raster .now)) (length (a .grey .now)) (length (a .words .now))
-  ready = newest-ok numbers B (c .bracket-of .ensures) false _ _ _ _ _ (start .pre .0) (start .pre .1)
+  more : (n : ℕ) → n ≤ maxFrames → BracketOk (holding B n)
+  more n few = more-ok numbers B (c .bracket-of .ensures) n few (start .pre .0)
 
 add-put-pair : tie.Need-add-put-pair
 add-put-pair c = let k = limits c .frames in omega arith
@@ -52,7 +53,10 @@ replace-newest-requires c κs =
     ((k .exact3, k .exact2), limits (c .before .before) .shape .size .area)
 
 put-bracket-requires : tie.Need-put-bracket-requires
-put-bracket-requires c κs = (accepted (c .before .before .before .before .before .before) .exact1, more (c .before .before .before .before .before .before))
+put-bracket-requires c κs =
+    let b = c .before .before .before .before .before .before in
+    let few = room b in
+    (accepted b .exact1, more b _ (omega arith))
 
 same-length : tie.Need-same-length
 same-length c = search needs
@@ -73,7 +77,21 @@ places-requires : tie.Need-places-requires
 places-requires c κs = search needs
 
 align-newest-requires : tie.Need-align-newest-requires
-align-newest-requires c κs = (ready (c .before .before .before .before .before .before), c .before .before .before .before .places .ensures .1)
+align-newest-requires c κs =
+    let b = c .before .before .before .before .before .before in
+    let k = limits b in
+    let a = accepted b in
+    let p = k .percentile in (
+      record {
+        shape = k .shape;
+        percentiles = record { least = let l = p .least in omega arith; most = let l = p .most in omega arith };
+        exact1 = a .exact2;
+        exact2 = a .exact3;
+        greys = a .greys;
+        bitmaps = a .bitmaps;
+      },
+      c .before .before .before .before .places .ensures .1,
+    )
 
 sub-put-pair : tie.Need-sub-put-pair
 sub-put-pair c = search needs
@@ -81,7 +99,7 @@ sub-put-pair c = search needs
 put-pair-requires : tie.Need-put-pair-requires
 put-pair-requires c κs =
     let b = c .before .before .before .before .before .before .before .before .before .before .before .before .before .before in
-    let k = accepted b .place (limits b .frames) in
+    let few = room b in
     (accepted b .exact1, omega arith)
 
 put-bracket-requires-2 : tie.Need-put-bracket-requires-2
@@ -89,7 +107,8 @@ put-bracket-requires-2 c κs =
     let b = c .before .before .before .before .before .before .before .before .before .before .before .before .before .before .before .before .before in
     let size = c .before .before .put-pair .ensures .len in
     let k = accepted b .exact1 in
-    (omega arith, more b)
+    let few = room b in
+    (omega arith, more b _ (omega arith))
 
 same-length-3 : tie.Need-same-length-3
 same-length-3 c = search needs

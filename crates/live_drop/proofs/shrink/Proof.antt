@@ -11,10 +11,14 @@ bracket-of-requires c κs = search needs
 sub-pairs-in : tie.Need-sub-pairs-in
 sub-pairs-in c =
     let a = c .before .before in
-    frames-read (a .args .held .now) (c .bracket-of .result) (c .bracket-of .ensures) (a .pre .1 .1)
+    let some = frames-read (a .args .held .now) (c .bracket-of .result) (c .bracket-of .ensures) (a .pre .1 .1) in
+    omega arith
 
 sub-pairs-in-2 : tie.Need-sub-pairs-in-2
-sub-pairs-in-2 c = sub-pairs-in c
+sub-pairs-in-2 c =
+    let a = c .before .before in
+    let some = frames-read (a .args .held .now) (c .bracket-of .result) (c .bracket-of .ensures) (a .pre .1 .1) in
+    omega arith
 
 pairs-in-requires : tie.Need-pairs-in-requires
 pairs-in-requires c κs = search needs
@@ -33,7 +37,8 @@ put-bracket-requires c κs =
     let b = d .before .before .before in
     let a = b .before .before in
     let size = d .drop-pair .ensures .len in
-    (omega arith, left-ok (a .args .held .now) (b .bracket-of .result) (b .bracket-of .ensures) (a .pre .1 .0))
+    let few = limits-read (a .args .held .now) (b .bracket-of .result) (b .bracket-of .ensures) (a .pre .1 .0) .frames in
+    (omega arith, left-ok (a .args .held .now) (b .bracket-of .result) (b .bracket-of .ensures) _ (omega arith) (a .pre .1 .0))
 
 same-length : tie.Need-same-length
 same-length c = search needs

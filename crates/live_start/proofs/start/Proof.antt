@@ -36,7 +36,7 @@ put-bracket-requires c κs =
     let e = c .before in
     let a = e .before .before .before .args in
     let ok = start-ok (a .w) (a .h) (a .s) (a .tolerance) (a .percentile) _ _ (sym (e .before .start-refusal .ensures) ∙ e .if1 .left) in
-    (ok .1, ok .0)
+    (ok .1, record { shape = ok .0 .shape; tolerance = ok .0 .tolerance; percentile = ok .0 .percentile; frames = omega arith })
 
 same-length : tie.Need-same-length
 same-length c = search needs

@@ -1,14 +1,17 @@
 -- The series' own function tells the offsets from the part of the numbers that holds the pairs.
 use mathlib.Core.Path.{_≡_, sym, ap, _∙_}
+use mathlib.Core.List.{List}
+use Prim.Native.Nat.{_≤_}
 use native.Mathlib.Omega.{arith}
 use borrow.Author.Needs.{needs}
+use lib.IntN.{ℤ}
 use lib.ListN.{length}
 use Rattle.rules.specs.Levels.{leastMoveOrder}
 use Rattle.live.specs.declared.Bracket.{Bracket}
 use Rattle.live.specs.Held.{Memory, memoryOf, bracketOf}
 use Rattle.live.specs.Steps.{Call, badHeld, numberOf, tellNumber, framesIn, offsetsIn}
 use Rattle.live.proofs.StepLaws.{refused-tells, accepted-tells}
-use Rattle.live_tell.proofs.ToldLaws.{told-ok, few, room, pairs-room, pairs-small, told-none, told-some}
+use Rattle.live_tell.proofs.ToldLaws.{told-ok, few, room, end-inside, pairs-room, pairs-small, told-none, told-some}
 use Rattle.live_tell.proofs.tell.Statement.{statement}
 use Rattle.live_tell.proofs.tell.Tie as tie
 
@@ -50,33 +53,51 @@ returns-2 c =
     0 (a .offsets .now) (a .offsets .now) (sym (c .if2 .taken) ∙ ap (λ (K : Bracket). K .frames) (b .bracket-of .ensures))
     (told-none (a .held .now) _ _ (none e) (b .bracket-of .result) (b .bracket-of .ensures) (c .if2 .taken) (a .offsets .now))
 
+-- what is known of the bracket that was read
+module _ (c : tie.Else2) where
+  abbrev e : tie.Else1
+  e = c .before .before
+
+  abbrev numbers : List ℤ
+  numbers = e .before .before .before .args .held .now
+
+  few-held : c .before .bracket-of .result .frames ≤ 16
+  few-held = few numbers _ _ (none e) (c .before .bracket-of .result) (c .before .bracket-of .ensures)
+
+sub-last : tie.Need-sub-last
+sub-last c = search needs
+
+mul-end : tie.Need-mul-end
+mul-end c = let f = few-held c in omega arith
+
+add-end : tie.Need-add-end
+add-end c = let f = few-held c in omega arith
+
+cast-told : tie.Need-cast-told
+cast-told c = let f = few-held c in omega arith
+
 sub-frame-offsets : tie.Need-sub-frame-offsets
-sub-frame-offsets c = let k = told-ok _ _ _ (none (c .before .before)) .exact1 in omega arith
+sub-frame-offsets c = search needs
 
 part-frame-offsets-start : tie.Need-part-frame-offsets-start
-part-frame-offsets-start c = let k = told-ok _ _ _ (none (c .before .before)) .exact1 in omega arith
+part-frame-offsets-start c = search needs
 
 part-frame-offsets-end : tie.Need-part-frame-offsets-end
-part-frame-offsets-end c = search needs
+part-frame-offsets-end c = end-inside (numbers c) _ _ (none (e c)) (c .before .bracket-of .result) (c .before .bracket-of .ensures)
 
 frame-offsets-requires : tie.Need-frame-offsets-requires
 frame-offsets-requires c κs =
-    let b = c .before .before .before in
-    let n = none (b .before) in
-    let l = b .before .before .before .before .args .held .now in
-    let f = few l _ _ n (b .bracket-of .result) (b .bracket-of .ensures) in (
-      (omega arith, omega arith),
+    let d = c .before .before in
+    let b = d .before in
+    let l = numbers d in
+    let n = none (e d) in
+    let f = few-held d in (
+      (omega arith, f),
       (
         pairs-room l _ _ n (b .bracket-of .result) (b .bracket-of .ensures),
         (room l _ _ n (b .bracket-of .result) (b .bracket-of .ensures), pairs-small l _ _ n (b .bracket-of .result) (b .bracket-of .ensures)),
       ),
     )
-
-cast-t16 : tie.Need-cast-t16
-cast-t16 c =
-    let b = c .before .before .before .before .before in
-    let f = few _ _ _ (none (b .before)) (b .bracket-of .result) (b .bracket-of .ensures) in
-    omega arith
 
 same-length : tie.Need-same-length
 same-length c = search needs
@@ -84,12 +105,13 @@ same-length c = search needs
 returns-3 : tie.Need-returns-3
 unfolding framesIn offsetsIn
 returns-3 c =
-    let b = c .before .before .before .before .before in
-    let e = b .before in
-    let a = e .before .before .before .args in
-    accepted-tells leastMoveOrder (memory (e .before)) (call (e .before)) (e .before .tell-refusal .result) (number (e .before)) (e .if1 .left)
+    let d = c .before .before .before .before in
+    let b = d .before in
+    let f = e d in
+    let a = f .before .before .before .args in
+    accepted-tells leastMoveOrder (memory (f .before)) (call (f .before)) (f .before .tell-refusal .result) (number (f .before)) (f .if1 .left)
     (b .bracket-of .result .frames) (a .offsets .now) (c .before .frame-offsets .last .1 .1 .1 .0) (ap (λ (K : Bracket). K .frames) (b .bracket-of .ensures))
-    (told-some (a .held .now) _ _ (none e) (b .bracket-of .result) (b .bracket-of .ensures) (a .offsets .now) (c .before .frame-offsets .last .1 .1 .1 .0) (c .before .frame-offsets .ensures))
+    (told-some (a .held .now) _ _ (none f) (b .bracket-of .result) (b .bracket-of .ensures) (omega arith) (a .offsets .now) (c .before .frame-offsets .last .1 .1 .1 .0) (c .before .frame-offsets .ensures))
 
 pub tell-spec : {M : Type 1} → statement M
 tell-spec =
@@ -99,10 +121,13 @@ tell-spec =
     returns
     bracket-of-requires
     returns-2
+    sub-last
+    mul-end
+    add-end
+    cast-told
     sub-frame-offsets
     part-frame-offsets-start
     part-frame-offsets-end
     frame-offsets-requires
-    cast-t16
     same-length
     returns-3)
