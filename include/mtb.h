@@ -23,6 +23,7 @@
  *               pixels whose grey value lies from the threshold for percentile - band to that for
  *               percentile + band, both included.
  *   percentile  17, 50 or 83: where the threshold lies among a frame's grey values; 50 is the median.
+ *   A live bracket is given its size and settings once, by mtb_live_start; its memory keeps them.
  *
  * RESULTS
  *   Every function but the last two of "Alignment" returns 0 when it has accepted its inputs, else the
@@ -32,15 +33,18 @@
  *
  * WHAT IS LENT
  *   A slice is a pointer and a number of elements (not of bytes). All memory is the caller's, and lent
- *   until the call returns. Nothing is kept between calls: no heap, no file, no global variable,
- *   nothing to set up or to free. The caller sees to it that
+ *   until the call returns. The library keeps nothing between calls: no heap, no file, no global
+ *   variable, nothing to set up or to free. What a live bracket holds from call to call stands in two
+ *   slices of the caller's, held and newest, which the caller keeps as they are between the calls; any
+ *   number of live brackets may be held at once. The caller sees to it that
  *   - no pointer is NULL, also where its length is 0;
  *   - a pointer is aligned for its type (uint64_t and size_t to 8 bytes, uint32_t and int32_t to 4),
  *     and that many elements are there;
  *   - what a call may write (outputs, work memory, results behind pointers) overlaps nothing else that
  *     is lent to the same call; inputs, the const ones, may overlap each other or be the same;
  *   - nobody else writes any of it before the call returns.
- *   What outputs and work memory hold before a call does not matter.
+ *   What outputs and work memory hold before a call does not matter. held and newest are inputs and
+ *   outputs of the same call: what they hold before it matters, but for mtb_live_start.
  *
  * THREADS
  *   The functions share no state. Any number of threads may be inside them at once, each with outputs
@@ -75,7 +79,8 @@ extern "C" {
 
 /*
  * Refusals. A function tests those that its comment lists, in the order of the numbers but for 15, which
- * stands in the place of 5, and gives the first that applies.
+ * stands in the place of 5, and 16, which is tested before all others but the length of the held
+ * numbers (9); it gives the first that applies.
  */
 enum mtb_refusal {
     MTB_ACCEPTED = 0,
@@ -84,16 +89,17 @@ enum mtb_refusal {
     MTB_BAD_HALVINGS = 3,    /* s is above 8 */
     MTB_TOO_SMALL = 4,       /* a side (of a quadrant, for mtb_quadrants) is below 2^(s+2), for mtb_halve below 2 */
     MTB_BAD_TOLERANCE = 5,   /* the tolerance is above 64 */
-    MTB_BAD_FRAMES = 6,      /* the number of frames is 0 or above 16 */
+    MTB_BAD_FRAMES = 6,      /* the number of frames is 0 or above 16; a live bracket holds 16 already */
     MTB_BAD_REFERENCE = 7,   /* the reference is not below the number of frames */
     MTB_BAD_PERCENTILE = 8,  /* a percentile is not 17, 50 or 83, or there are not n - 1 of them */
-    MTB_WRONG_LENGTH = 9,    /* an input, or the raster in a file, has not exactly the needed length */
+    MTB_WRONG_LENGTH = 9,    /* an input, a held slice, or the raster in a file has not exactly the needed length */
     MTB_SHORT_OUTPUT = 10,   /* an output is shorter than needed */
     MTB_SHORT_MEMORY = 11,   /* the grey or the word work memory is shorter than needed */
     MTB_FAR_OFFSET = 12,     /* a number of the offsets is outside -32768 to 32767 */
     MTB_NOTHING_COMMON = 13, /* the common area has no column or no row */
     MTB_BAD_ROW = 14,        /* the row's y is not below the height */
-    MTB_BAD_BAND = 15        /* the band is above 16; tested in the place of 5 */
+    MTB_BAD_BAND = 15,       /* the band is above 16; tested in the place of 5 */
+    MTB_BAD_HELD = 16        /* held numbers break their limits, or nothing is held to drop; tested first */
 };
 
 /* ---- Frames ---- */
@@ -277,7 +283,7 @@ uint32_t mtb_quadrants(uint32_t w, uint32_t h, uint32_t s, uint32_t tolerance, u
                        uint64_t *words, size_t words_len);
 
 /*
- * The work memory of these seven; of mtb_quadrants with a quadrant's w/2 and h/2 for w and h. Bytes of
+ * The work memory of these seven and of mtb_live_add; of mtb_quadrants with a quadrant's w/2 and h/2 for w and h. Bytes of
  * grey: twice the pixels of all levels. Words of 64 bits: 6*W*h. For 1920 by 1080 and s = 6 that is
  * 5529000 bytes and 194400 words; the most, for 4096 by 4096 and s = 8, is 44739072 bytes and 1572864
  * words.
@@ -285,6 +291,70 @@ uint32_t mtb_quadrants(uint32_t w, uint32_t h, uint32_t s, uint32_t tolerance, u
  */
 size_t mtb_grey_needed(uint32_t w, uint32_t h, uint32_t s);
 size_t mtb_words_needed(uint32_t w, uint32_t h, uint32_t s);
+
+/* ---- Live bracket ---- */
+
+/*
+ * A series whose frames come and go: a frame is added at its end, the oldest is dropped, and the offsets
+ * of the frames held, 0 to 16, are told against the oldest. Size, s, tolerance and percentile are fixed
+ * when it starts. After any list of these calls, refused ones among them, the offsets told are those
+ * that mtb_series gives for the frames then held, with r = 0 and that percentile for every pair; but
+ * each frame is aligned once, when it is added, and no raster is kept. That holds as long as nobody else
+ * writes the memory between the calls.
+ *
+ * The memory is two slices of the caller's, handed to every call with exactly these lengths:
+ *   held     36 numbers: w, h, s, tolerance, percentile, the number of frames held, then dx and dy of
+ *            each pair of neighbours, oldest first: n frames have n - 1 pairs. The others are unused:
+ *            every accepted start, add and drop writes 0 there, and no call reads them.
+ *   newest   w*h bytes: the grey of the newest frame. While no frame is held it is free: no call reads
+ *            it, and it may hold anything.
+ * It may be copied, stored and handed over elsewhere as it is. Each call but mtb_live_start tests it
+ * anew: refusal 16 where w or h is not 1 to 4096, s is above 8, a side is below 2^(s+2), the tolerance
+ * is above 64, the percentile is not 17, 50 or 83, the number of frames is above 16, one of these is
+ * negative, or a dx or dy in use is beyond 2^(s+1) - 1 either way. So memory that was overwritten leads
+ * to a refusal or to offsets of its own, never to a step outside what is lent. 16 is tested before all
+ * others but the length of held: without 36 numbers there is nothing to look at, and the call answers 9.
+ */
+
+/*
+ * Starts a live bracket, empty, with this size and these settings, whatever the memory held: a second
+ * start begins anew, also with another shape of as many pixels. It reads none of the memory, never gives
+ * 16, writes all of held, and leaves newest as it is. Refusals: 2, 3, 4, 5, 8, 9.
+ */
+uint32_t mtb_live_start(uint32_t w, uint32_t h, uint32_t s, uint32_t tolerance, uint32_t percentile,
+                        int32_t *held, size_t held_len,
+                        uint8_t *newest, size_t newest_len);
+
+/*
+ * Adds a frame: aligns it with the newest one as mtb_pair would, where one is held, keeps that pair's
+ * offset in held and the new frame's grey in newest. raster: 3*w*h bytes, not needed any more when the
+ * call is back. grey, words: work memory, as long as mtb_grey_needed and mtb_words_needed tell for w, h
+ * and s, or longer, for the first frame too; what it holds afterwards means nothing. A seventeenth frame
+ * is refused by 6: drop one first. Refusals, in this order: 9 (held), 16, 6, 9 (newest, raster), 11.
+ */
+uint32_t mtb_live_add(int32_t *held, size_t held_len,
+                      uint8_t *newest, size_t newest_len,
+                      const uint8_t *raster, size_t raster_len,
+                      uint8_t *grey, size_t grey_len,
+                      uint64_t *words, size_t words_len);
+
+/*
+ * Drops the oldest frame and its pair; the offsets are told against the next one from now on. Nothing is
+ * aligned, and newest stays as it is. Where nothing is held: 16. Refusals, in this order: 9 (held), 16,
+ * 9 (newest).
+ */
+uint32_t mtb_live_drop(int32_t *held, size_t held_len,
+                       uint8_t *newest, size_t newest_len);
+
+/*
+ * Tells the offsets: *n is the number of frames held, 0 to 16. offsets: 2*n numbers, dx and dy of each
+ * frame, oldest first: the move that brings it onto the oldest, which has (0, 0) itself. Room for 32
+ * numbers always suffices. Refusals, in this order: 9 (held), 16, 9 (newest), 10.
+ */
+uint32_t mtb_live_offsets(const int32_t *held, size_t held_len,
+                          const uint8_t *newest, size_t newest_len,
+                          int32_t *offsets, size_t offsets_len,
+                          uint32_t *n);
 
 /* ---- P6 files (Netpbm's ppm) ---- */
 

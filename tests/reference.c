@@ -1,4 +1,4 @@
-/* Document 01 and Papers 1 to 6 of document 02, pixel by pixel. Sentences in quotation marks are the documents'. */
+/* Document 01 and Papers 1 to 7 of document 02, pixel by pixel. Sentences in quotation marks are the documents'. */
 #include "reference.h"
 
 #include <stdio.h>
@@ -18,6 +18,7 @@ enum {
     MIN_AREA_OFFSET = -32768,
     MAX_AREA_OFFSET = 32767,
     MOST_COUNTS = CANDIDATES * (MAX_HALVINGS + 1),
+    HELD_NUMBERS = 36,
     BRACKET_FILE = 65536,
     BRACKET_GREY = 65536,
     BRACKET_WORDS = 8192,
@@ -495,6 +496,16 @@ static struct offset frame_offset(const struct offset d[MAX_FRAMES], uint32_t r,
     return sum;
 }
 
+/* "Offsets are 2·N signed 32-bit numbers, dx before dy". */
+static void tell_offsets(const struct offset d[MAX_FRAMES], uint32_t r, uint32_t n, int32_t *offsets)
+{
+    for (uint32_t k = 0; k < n; k++) {
+        struct offset offset = frame_offset(d, r, k);
+        offsets[2 * k] = (int32_t)offset.dx;
+        offsets[2 * k + 1] = (int32_t)offset.dy;
+    }
+}
+
 /* ---- Quadrants ---- */
 
 /* Where the first or the second half of a side begins: "each floor(w/2) by floor(h/2), the odd middle column or row left out" */
@@ -764,11 +775,7 @@ static uint32_t series_by(const struct offset order[CANDIDATES], uint32_t w, uin
         return refusal;
     struct offset d[MAX_FRAMES];
     align_pairs(order, w, h, s, rule, n, percentiles, rasters, d, (struct tallies){ counts, compared });
-    for (uint32_t k = 0; k < n; k++) {
-        struct offset offset = frame_offset(d, r, k);
-        offsets[2 * k] = (int32_t)offset.dx;
-        offsets[2 * k + 1] = (int32_t)offset.dy;
-    }
+    tell_offsets(d, r, n, offsets);
     return 0;
 }
 
@@ -845,6 +852,171 @@ uint32_t ref_quadrants(uint32_t w, uint32_t h, uint32_t s, uint32_t tolerance, u
     *turned = ref_turned(offsets);
     return 0;
 }
+
+/* ---- The live bracket ---- */
+
+/* "36 signed 32-bit numbers (w, h, s, T, percentile, frames held, then each pair's dx and dy, oldest first, …)": the places. */
+enum { HELD_W, HELD_H, HELD_S, HELD_TOLERANCE, HELD_PERCENTILE, HELD_FRAMES, HELD_PAIRS };
+
+/* What they say; pair j is frames j−1 and j, as in a series. */
+struct held {
+    uint32_t w, h, s, tolerance, percentile, frames;
+    struct offset d[MAX_FRAMES];
+};
+
+/* The place of pair j's dx; its dy follows. */
+static uint32_t pair_place(uint32_t j)
+{
+    return HELD_PAIRS + 2 * (j - 1);
+}
+
+/* "size (a side below 2^(s+2) included), settings, frame number (not 0 to 16)" */
+static bool bad_numbers(const struct held *held)
+{
+    return settings_refusal(held->w, held->h, held->s, by_tolerance(held->tolerance)) != 0 ||
+           bad_percentile(held->percentile) || held->frames > MAX_FRAMES;
+}
+
+/* "pair offsets in use (beyond 2^(s+1)−1)" */
+static bool far_pair(const struct held *held)
+{
+    int64_t most = 1;
+    for (uint32_t i = 0; i <= held->s; i++)
+        most *= 2;
+    most -= 1;
+    for (uint32_t j = 1; j < held->frames; j++)
+        if (llabs(held->d[j].dx) > most || llabs(held->d[j].dy) > most)
+            return true;
+    return false;
+}
+
+/* False: 16, "held memory whose … break their limits". A number below 0 is taken for one above every limit. Unused ones are "never
+ * read". */
+static bool read_held(const int32_t *numbers, struct held *held)
+{
+    held->w = (uint32_t)numbers[HELD_W];
+    held->h = (uint32_t)numbers[HELD_H];
+    held->s = (uint32_t)numbers[HELD_S];
+    held->tolerance = (uint32_t)numbers[HELD_TOLERANCE];
+    held->percentile = (uint32_t)numbers[HELD_PERCENTILE];
+    held->frames = (uint32_t)numbers[HELD_FRAMES];
+    if (bad_numbers(held))
+        return false;
+    for (uint32_t j = 1; j < held->frames; j++)
+        held->d[j] = (struct offset){ numbers[pair_place(j)], numbers[pair_place(j) + 1] };
+    return !far_pair(held);
+}
+
+/* "unused ones written 0 by every accepted start, add and drop" */
+static void write_held(const struct held *held, int32_t *numbers)
+{
+    numbers[HELD_W] = (int32_t)held->w;
+    numbers[HELD_H] = (int32_t)held->h;
+    numbers[HELD_S] = (int32_t)held->s;
+    numbers[HELD_TOLERANCE] = (int32_t)held->tolerance;
+    numbers[HELD_PERCENTILE] = (int32_t)held->percentile;
+    numbers[HELD_FRAMES] = (int32_t)held->frames;
+    for (uint32_t i = HELD_PAIRS; i < HELD_NUMBERS; i++)
+        numbers[i] = 0;
+    for (uint32_t j = 1; j < held->frames; j++) {
+        numbers[pair_place(j)] = (int32_t)held->d[j].dx;
+        numbers[pair_place(j) + 1] = (int32_t)held->d[j].dy;
+    }
+}
+
+/* "the call that starts a series reads none of the memory, never gives 16 and keeps the usual order" */
+uint32_t ref_live_start(uint32_t w, uint32_t h, uint32_t s, uint32_t tolerance, uint32_t percentile, int32_t *held,
+                        size_t held_len, uint8_t *newest, size_t newest_len)
+{
+    (void)newest;
+    uint32_t refusal = settings_refusal(w, h, s, by_tolerance(tolerance));
+    if (refusal)
+        return refusal;
+    if (bad_percentile(percentile))
+        return 8;
+    if (held_len != HELD_NUMBERS || newest_len != pixels(w, h))
+        return 9;
+    struct held empty = { .w = w, .h = h, .s = s, .tolerance = tolerance, .percentile = percentile };
+    write_held(&empty, held);
+    return 0;
+}
+
+/* "An add aligns at most one pair": the newest frame and the new one, by the new order. */
+static struct offset newest_pair(const struct held *held, uint8_t *newest, const struct frame *new)
+{
+    uint32_t counts[MOST_COUNTS], compared[MOST_COUNTS];
+    struct frame last = { held->w, held->h, newest };
+    return align(least_move, &last, new, held->s, by_tolerance(held->tolerance), held->percentile,
+                 (struct tallies){ counts, compared });
+}
+
+/* "It adds a frame at its end". 16 is "tested before all others but the length of the 36 numbers". "A seventeenth frame is refused
+ * by 6." */
+uint32_t ref_live_add(int32_t *held, size_t held_len, uint8_t *newest, size_t newest_len, const uint8_t *raster,
+                      size_t raster_len, uint8_t *grey, size_t grey_len, uint64_t *words, size_t words_len)
+{
+    (void)grey;
+    (void)words;
+    struct held now;
+    if (held_len != HELD_NUMBERS)
+        return 9;
+    if (!read_held(held, &now))
+        return 16;
+    if (now.frames == MAX_FRAMES)
+        return 6;
+    if (newest_len != pixels(now.w, now.h) || raster_len != raster_bytes(now.w, now.h))
+        return 9;
+    if (short_memory(now.w, now.h, now.s, grey_len, words_len))
+        return 11;
+    struct frame new = frame_of_raster(now.w, now.h, raster);
+    if (now.frames > 0)
+        now.d[now.frames] = newest_pair(&now, newest, &new);
+    now.frames++;
+    write_held(&now, held);
+    for (size_t i = 0; i < newest_len; i++)
+        newest[i] = new.grey[i];
+    free(new.grey);
+    return 0;
+}
+
+/* It "drops its oldest"; 16 is also "a drop with nothing held". */
+uint32_t ref_live_drop(int32_t *held, size_t held_len, uint8_t *newest, size_t newest_len)
+{
+    (void)newest;
+    struct held now;
+    if (held_len != HELD_NUMBERS)
+        return 9;
+    if (!read_held(held, &now) || now.frames == 0)
+        return 16;
+    if (newest_len != pixels(now.w, now.h))
+        return 9;
+    now.frames--;
+    for (uint32_t j = 1; j < now.frames; j++)
+        now.d[j] = now.d[j + 1];
+    write_held(&now, held);
+    return 0;
+}
+
+/* It "tells the offsets, always against its oldest". */
+uint32_t ref_live_offsets(const int32_t *held, size_t held_len, const uint8_t *newest, size_t newest_len, int32_t *offsets,
+                          size_t offsets_len, uint32_t *n)
+{
+    (void)newest;
+    struct held now;
+    if (held_len != HELD_NUMBERS)
+        return 9;
+    if (!read_held(held, &now))
+        return 16;
+    if (newest_len != pixels(now.w, now.h))
+        return 9;
+    if (offsets_len < 2 * (size_t)now.frames)
+        return 10;
+    tell_offsets(now.d, 0, now.frames, offsets);
+    *n = now.frames;
+    return 0;
+}
+
+/* ---- Work memory ---- */
 
 size_t ref_grey_needed(uint32_t w, uint32_t h, uint32_t s)
 {

@@ -1,4 +1,4 @@
-/* An independent implementation of document 01 and document 02, Papers 1 to 6, written straight from their text, pixel by pixel.
+/* An independent implementation of document 01 and document 02, Papers 1 to 7, written straight from their text, pixel by pixel.
  *
  * It shares no code with the library and is meant to be read beside the documents: bitmaps are read and written a bit at a
  * time, differences are counted over single pixels, a threshold is found by counting, and speed does not matter.
@@ -76,6 +76,19 @@ uint32_t ref_quadrants(uint32_t w, uint32_t h, uint32_t s, uint32_t tolerance, u
 /* Whether quadrants with these offsets, dx and dy of each, are turned. */
 bool ref_turned(const int32_t offsets[8]);
 
+/* A live bracket: its memory is 36 numbers and the newest frame's grey. One starts empty; a frame is added at its end, by the least
+ * move, the oldest is dropped, and the offsets of the *n frames held are told against the oldest. */
+uint32_t ref_live_start(uint32_t w, uint32_t h, uint32_t s, uint32_t tolerance, uint32_t percentile, int32_t *held,
+                        size_t held_len, uint8_t *newest, size_t newest_len);
+
+uint32_t ref_live_add(int32_t *held, size_t held_len, uint8_t *newest, size_t newest_len, const uint8_t *raster,
+                      size_t raster_len, uint8_t *grey, size_t grey_len, uint64_t *words, size_t words_len);
+
+uint32_t ref_live_drop(int32_t *held, size_t held_len, uint8_t *newest, size_t newest_len);
+
+uint32_t ref_live_offsets(const int32_t *held, size_t held_len, const uint8_t *newest, size_t newest_len, int32_t *offsets,
+                          size_t offsets_len, uint32_t *n);
+
 uint32_t ref_p6_size(const uint8_t *file, size_t file_len, uint32_t *w, uint32_t *h);
 
 /* The raster as a part of the file: where it begins, and how many bytes it has. */
@@ -95,7 +108,7 @@ uint32_t ref_moved(uint32_t w, uint32_t h, int32_t dx, int32_t dy, const uint8_t
 uint32_t ref_blink_row(uint32_t w, uint32_t h, uint32_t y, bool second, const uint8_t *first_raster, size_t first_len,
                        const uint8_t *second_raster, size_t second_len, size_t *start, size_t *length);
 
-/* Work memory of pair and series, and of quadrants with a quadrant's size: bytes, and 64-bit words; 0 when the sizes or s are
+/* Work memory of pair, series and the live bracket's add, and of quadrants with a quadrant's size: bytes, and 64-bit words; 0 when the sizes or s are
  * refused. */
 size_t ref_grey_needed(uint32_t w, uint32_t h, uint32_t s);
 size_t ref_words_needed(uint32_t w, uint32_t h, uint32_t s);

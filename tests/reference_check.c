@@ -1,5 +1,5 @@
 /* The reference itself against what documents 01 and 02 print: their worked examples, also those that the library proves, and the
- * table of numbers; and a tie, compared numbers, bands, comments and quadrants worked by hand. Prints what it compared; exit status 1
+ * table of numbers; and a tie, compared numbers, bands, comments, quadrants and a live bracket worked by hand. Prints what it compared; exit status 1
  * when something differs. */
 #include "reference.h"
 
@@ -587,6 +587,235 @@ static void check_quadrants_limits(void)
     expect("short words refused by 11", quadrants_number(17, 17, 1, 64, 17, 0, 0, 8, 2 * (64 + 16), 6 * 8 - 1) == 11);
 }
 
+/* ---- The live bracket ---- */
+
+enum { HELD = 36, LIVE_SIDE = 8, LIVE_PIXELS = LIVE_SIDE * LIVE_SIDE, LIVE_FRAMES = 16, LIVE_GREY = 2 * 64, LIVE_WORDS = 6 * 8 };
+
+/* The memory of a bracket of 8 by 8 frames without halving, and what is told of it. */
+struct live {
+    int32_t held[HELD], offsets[2 * LIVE_FRAMES];
+    uint8_t newest[LIVE_PIXELS];
+    uint32_t told;
+};
+
+/* Anything. */
+static struct live unstarted(void)
+{
+    struct live live;
+    memset(&live, 0x5A, sizeof live);
+    return live;
+}
+
+static uint32_t start(struct live *live)
+{
+    return ref_live_start(LIVE_SIDE, LIVE_SIDE, 0, 0, 50, live->held, HELD, live->newest, LIVE_PIXELS);
+}
+
+/* Ground of which every place looks otherwise, seen by a camera that stands at (x,y), which are 0 to 9. */
+static uint8_t ground_at(int32_t x, int32_t y)
+{
+    return (uint8_t)((37 * x + 91 * y + 13 * x * y) % 251);
+}
+
+static void look_from(int32_t x, int32_t y, uint8_t *raster)
+{
+    for (int32_t row = 0; row < LIVE_SIDE; row++)
+        for (int32_t column = 0; column < LIVE_SIDE; column++)
+            memset(raster + 3 * (row * LIVE_SIDE + column), ground_at(x + column, y + row), 3);
+}
+
+static uint32_t add_from(struct live *live, int32_t x, int32_t y)
+{
+    uint8_t raster[3 * LIVE_PIXELS];
+    look_from(x, y, raster);
+    return ref_live_add(live->held, HELD, live->newest, LIVE_PIXELS, raster, sizeof raster, NULL, LIVE_GREY, NULL, LIVE_WORDS);
+}
+
+static uint32_t drop(struct live *live)
+{
+    return ref_live_drop(live->held, HELD, live->newest, LIVE_PIXELS);
+}
+
+static uint32_t tell(struct live *live)
+{
+    return ref_live_offsets(live->held, HELD, live->newest, LIVE_PIXELS, live->offsets, 2 * LIVE_FRAMES, &live->told);
+}
+
+/* Whether these frames are held, with these numbers from the sixth on, and 0 after them. */
+static bool holds(const struct live *live, int32_t frames, const int32_t *pairs)
+{
+    static const int32_t settings[] = { LIVE_SIDE, LIVE_SIDE, 0, 0, 50 };
+    int32_t used = frames > 0 ? 2 * (frames - 1) : 0;
+    bool zero = true;
+    for (int i = 6 + used; i < HELD; i++)
+        zero = zero && live->held[i] == 0;
+    return memcmp(live->held, settings, sizeof settings) == 0 && live->held[5] == frames &&
+           memcmp(live->held + 6, pairs, (size_t)used * sizeof *pairs) == 0 && zero;
+}
+
+static bool tells(struct live *live, uint32_t frames, const int32_t *offsets)
+{
+    live->told = 99;
+    memset(live->offsets, 0x5A, sizeof live->offsets);
+    bool told = tell(live) == 0 && live->told == frames && memcmp(live->offsets, offsets, 8 * frames) == 0;
+    return told && (frames == LIVE_FRAMES || live->offsets[2 * frames] == 0x5A5A5A5A);
+}
+
+/* "starts empty"; "adds a frame at its end, drops its oldest, and tells the offsets, always against its oldest" */
+static void check_live(void)
+{
+    static const int32_t none[1], first[] = { 0, 0 };
+    struct live live = unstarted();
+    uint8_t before[LIVE_PIXELS];
+    memcpy(before, live.newest, sizeof before);
+    expect("nothing goes before a start", tell(&live) == 16 && drop(&live) == 16 && add_from(&live, 4, 4) == 16);
+    expect("a bracket starts empty", start(&live) == 0 && holds(&live, 0, none) && tells(&live, 0, none));
+    expect("a start leaves the newest grey", memcmp(live.newest, before, sizeof before) == 0);
+    expect("a drop with nothing held", drop(&live) == 16 && holds(&live, 0, none));
+    expect("the first frame", add_from(&live, 4, 3) == 0 && holds(&live, 1, none) && tells(&live, 1, first));
+    expect("its grey", live.newest[0] == ground_at(4, 3) && live.newest[LIVE_PIXELS - 1] == ground_at(11, 10));
+    expect("the second frame", add_from(&live, 5, 3) == 0 && holds(&live, 2, (int32_t[]){ 1, 0 }));
+    expect("the third frame", add_from(&live, 6, 4) == 0 && holds(&live, 3, (int32_t[]){ 1, 0, 1, 1 }));
+    expect("sums against the oldest", tells(&live, 3, (int32_t[]){ 0, 0, 1, 0, 2, 1 }));
+    expect("the oldest is dropped", drop(&live) == 0 && holds(&live, 2, (int32_t[]){ 1, 1 }));
+    expect("sums against the next", tells(&live, 2, (int32_t[]){ 0, 0, 1, 1 }));
+    expect("one frame is left", drop(&live) == 0 && holds(&live, 1, none) && live.newest[0] == ground_at(6, 4));
+    expect("it is aligned with the next", add_from(&live, 5, 4) == 0 && holds(&live, 2, (int32_t[]){ -1, 0 }));
+    expect("none is left", drop(&live) == 0 && drop(&live) == 0 && holds(&live, 0, none) && tells(&live, 0, none));
+    expect("the next frame is a first one", add_from(&live, 4, 4) == 0 && holds(&live, 1, none) && tells(&live, 1, first));
+    expect("a second start empties", start(&live) == 0 && holds(&live, 0, none));
+}
+
+/* "A seventeenth frame is refused by 6." */
+static void check_live_full(void)
+{
+    struct live live = unstarted(), before;
+    int32_t pairs[2 * LIVE_FRAMES];
+    start(&live);
+    for (int k = 0; k < LIVE_FRAMES; k++) {
+        expect("sixteen frames", add_from(&live, 3 + k % 2, 4) == 0);
+        pairs[2 * k] = k % 2 ? -1 : 1;
+        pairs[2 * k + 1] = 0;
+    }
+    expect("fifteen pairs", holds(&live, LIVE_FRAMES, pairs));
+    before = live;
+    expect("a seventeenth frame", add_from(&live, 1, 1) == 6 && memcmp(&live, &before, sizeof live) == 0);
+    expect("after a drop there is room", drop(&live) == 0 && add_from(&live, 3, 4) == 0 && live.held[5] == LIVE_FRAMES);
+}
+
+/* The number of each call after one of the held numbers is changed. */
+static bool all_give(const struct live *live, int at, int32_t value, uint32_t add_number, uint32_t drop_number, uint32_t tell_number)
+{
+    struct live copies[3] = { *live, *live, *live };
+    for (int i = 0; i < 3; i++)
+        copies[i].held[at] = value;
+    return add_from(&copies[0], 4, 4) == add_number && drop(&copies[1]) == drop_number && tell(&copies[2]) == tell_number;
+}
+
+static bool all_refuse(const struct live *live, int at, int32_t value)
+{
+    return all_give(live, at, value, 16, 16, 16);
+}
+
+/* "held memory whose size (a side below 2^(s+2) included), settings, frame number (not 0 to 16) or pair offsets in use (beyond
+ * 2^(s+1)−1) break their limits" */
+static void check_damaged(void)
+{
+    struct live live = unstarted();
+    start(&live);
+    add_from(&live, 4, 4);
+    add_from(&live, 4, 3);
+    for (int at = 0; at < 6; at++)
+        expect("negative numbers", all_refuse(&live, at, -1) && all_refuse(&live, at, INT32_MIN) && all_refuse(&live, at, INT32_MAX));
+    for (int at = 0; at < 2; at++) {
+        expect("sides", all_refuse(&live, at, 0) && all_refuse(&live, at, 3) && all_refuse(&live, at, 4097));
+        expect("sides within limits", all_give(&live, at, 4096, 9, 9, 9) && all_give(&live, at, 9, 9, 9, 9));
+    }
+    expect("halvings", all_refuse(&live, 2, 2) && all_refuse(&live, 2, 9) && all_give(&live, 2, 1, 11, 0, 0));
+    expect("tolerance", all_refuse(&live, 3, 65) && all_give(&live, 3, 64, 0, 0, 0));
+    expect("percentile", all_refuse(&live, 4, 49) && all_give(&live, 4, 83, 0, 0, 0));
+    expect("frames", all_refuse(&live, 5, 17) && all_give(&live, 5, 16, 6, 0, 0) && all_give(&live, 5, 0, 0, 16, 0));
+    for (int at = 6; at < 8; at++) {
+        expect("offsets in use", all_refuse(&live, at, 2) && all_refuse(&live, at, -2) && all_refuse(&live, at, INT32_MIN));
+        expect("offsets at their limits", all_give(&live, at, 1, 0, 0, 0) && all_give(&live, at, -1, 0, 0, 0));
+        expect("offsets out of use", all_give(&live, at + 2, 2, 0, 0, 0) && all_give(&live, at + 28, INT32_MIN, 0, 0, 0));
+    }
+    live.held[8] = 77;
+    expect("unused ones are written 0 by an add", add_from(&live, 4, 4) == 0 && live.held[8] == 0 && live.held[9] == 1 && live.held[35] == 0);
+    live.held[35] = 77;
+    expect("and by a drop", drop(&live) == 0 && live.held[35] == 0);
+}
+
+/* The number of each call with a length off. */
+static uint32_t start_number(uint32_t w, uint32_t h, uint32_t s, uint32_t tolerance, uint32_t percentile, size_t held, size_t newest)
+{
+    struct live live = unstarted();
+    return ref_live_start(w, h, s, tolerance, percentile, live.held, held, live.newest, newest);
+}
+
+static uint32_t add_number(struct live live, size_t held, size_t newest, size_t raster, size_t grey, size_t words)
+{
+    uint8_t bytes[3 * LIVE_PIXELS] = { 0 };
+    return ref_live_add(live.held, held, live.newest, newest, bytes, raster, NULL, grey, NULL, words);
+}
+
+/* 16 is "tested before all others but the length of the 36 numbers"; the start "never gives 16 and keeps the usual order". */
+static void check_live_order(void)
+{
+    struct live live = unstarted(), full, bad;
+    start(&live);
+    full = bad = live;
+    full.held[5] = LIVE_FRAMES;
+    bad.held[3] = 65;
+    expect("start: 2, 3, 4", start_number(0, 8, 9, 65, 49, 35, 1) == 2 && start_number(8, 7, 9, 65, 49, 35, 1) == 3 &&
+                                 start_number(8, 7, 1, 65, 49, 35, 1) == 4);
+    expect("start: 5, 8, 9", start_number(8, 8, 1, 65, 49, 35, 1) == 5 && start_number(8, 8, 1, 64, 49, 35, 1) == 8 &&
+                                 start_number(8, 8, 1, 64, 17, 35, 64) == 9 && start_number(8, 8, 1, 64, 17, 36, 65) == 9);
+    expect("another shape of as many pixels", start_number(16, 4, 0, 0, 50, 36, 64) == 0);
+    expect("add: 9 before 16", add_number(bad, 35, 64, 192, 0, 0) == 9 && add_number(bad, 37, 64, 192, 0, 0) == 9);
+    expect("add: 16 before 6 and 9", add_number(bad, 36, 63, 191, 0, 0) == 16);
+    expect("add: 6 before 9", add_number(full, 36, 63, 191, 0, 0) == 6);
+    expect("add: 9 before 11", add_number(live, 36, 63, 192, 0, 0) == 9 && add_number(live, 36, 64, 193, 0, 0) == 9);
+    expect("add: 11", add_number(live, 36, 64, 192, LIVE_GREY - 1, LIVE_WORDS) == 11 &&
+                          add_number(live, 36, 64, 192, LIVE_GREY, LIVE_WORDS - 1) == 11);
+    expect("add: a pair's memory for the first frame", add_number(live, 36, 64, 192, LIVE_GREY, LIVE_WORDS) == 0);
+    expect("drop: 9, 16, 9", ref_live_drop(bad.held, 35, bad.newest, 63) == 9 && ref_live_drop(live.held, 36, live.newest, 63) == 16 &&
+                                 ref_live_drop(full.held, 36, full.newest, 63) == 9);
+    expect("tell: 9, 16", ref_live_offsets(bad.held, 37, bad.newest, 63, bad.offsets, 0, &bad.told) == 9 &&
+                              ref_live_offsets(bad.held, 36, bad.newest, 63, bad.offsets, 0, &bad.told) == 16);
+    full.told = 99;
+    memset(full.held + 6, 0, 30 * sizeof *full.held);
+    expect("tell: 9, 10", ref_live_offsets(full.held, 36, full.newest, 63, full.offsets, 31, &full.told) == 9 &&
+                              ref_live_offsets(full.held, 36, full.newest, 64, full.offsets, 31, &full.told) == 10 && full.told == 99);
+    expect("tell: nothing into nothing", ref_live_offsets(live.held, 36, live.newest, 64, live.offsets, 0, &live.told) == 0 && live.told == 0);
+}
+
+/* Frames come and go: "the offsets told are those of the series call on the frames then held, in order". */
+static void check_live_series(void)
+{
+    static const uint32_t percentiles[LIVE_FRAMES] = { 50, 50, 50, 50, 50, 50, 50, 50, 50, 50, 50, 50, 50, 50, 50, 50 };
+    static uint8_t rasters[40][3 * LIVE_PIXELS];
+    uint32_t counts[9 * 15], compared[9 * 15], first = 0, next = 0;
+    struct live live = unstarted();
+    start(&live);
+    for (int step = 0; step < 60; step++) {
+        if (next - first < LIVE_FRAMES && next < 40 && step % 5 != 3) {
+            look_from(step % 4 / 2, step % 6 / 3, rasters[next++]);
+            expect("a frame comes", add_from(&live, step % 4 / 2, step % 6 / 3) == 0);
+        } else {
+            expect("a frame goes", drop(&live) == 0);
+            first++;
+        }
+        int32_t series[2 * LIVE_FRAMES];
+        uint32_t n = next - first;
+        if (n > 0)
+            expect("the series is told",
+                   ref_series(LIVE_SIDE, LIVE_SIDE, 0, 0, n, 0, percentiles, n - 1, rasters[first], n * sizeof rasters[0], series,
+                              2 * LIVE_FRAMES, counts, 9 * 15, compared, 9 * 15, NULL, LIVE_GREY, NULL, LIVE_WORDS) == 0 &&
+                       tells(&live, n, series));
+    }
+}
+
 int main(void)
 {
     check_pixels();
@@ -609,6 +838,11 @@ int main(void)
     check_quadrants();
     check_turned();
     check_quadrants_limits();
+    check_live();
+    check_live_full();
+    check_damaged();
+    check_live_order();
+    check_live_series();
     printf("reference: %d compared, %d differ\n", checked, different);
     return different ? EXIT_FAILURE : EXIT_SUCCESS;
 }
