@@ -6,7 +6,7 @@
 #include <stdlib.h>
 #include <string.h>
 
-enum { SMALL_SIDE = 4, MAX_SIDE = 4096, MAX_S = 8, MAX_N = 17 };
+enum { SMALL_SIDE = 4, MAX_SIDE = 4096, MAX_S = 8, MAX_N = 17, HELD_NUMBERS = 36 };
 
 static void *memory(size_t bytes)
 {
@@ -53,6 +53,15 @@ static void fit_quadrants(struct vector *v, uint32_t w, uint32_t h, uint32_t s)
     fit_memory(v, w / 2, h / 2, s);
 }
 
+/* The numbers, the newest grey, the raster of an add; what is told of n frames. */
+static void fit_live(struct vector *v, size_t area)
+{
+    v->in[0].length = HELD_NUMBERS;
+    v->in[1].length = area;
+    v->in[2].length = 3 * area;
+    v->out[0] = 2 * least(v->n, MAX_N);
+}
+
 void fit_lengths(struct vector *v)
 {
     uint32_t w = 0 < v->w && v->w <= MAX_SIDE ? v->w : SMALL_SIDE;
@@ -75,6 +84,8 @@ void fit_lengths(struct vector *v)
         fit_series(v, raster, s);
     if (is_quadrants(v->call))
         fit_quadrants(v, w, h, s);
+    if (is_live(v->call))
+        fit_live(v, area);
     if (v->call == CALL_AREA)
         v->in[0].length = 2 * least(v->n, MAX_N);
 }
@@ -129,6 +140,15 @@ static void *hold(struct answer *a, int which, void *buffer, size_t bytes, bool 
     a->out_bytes[which] = bytes;
     a->whole[which] = whole;
     return buffer;
+}
+
+/* What is held, read and written: an output that begins as the input. */
+static void *hold_input(struct answer *a, int which, const struct slice *input, size_t element, bool whole)
+{
+    void *held = memory(input->length * element);
+    if (input->length > 0)
+        memcpy(held, input->data, input->length * element);
+    return hold(a, which, held, input->length * element, whole);
 }
 
 /* No count is above its compared number, or the run ends. */
@@ -253,6 +273,34 @@ static void answer_quadrants(const struct vector *v, struct answer *a)
     a->values[0] = turned;
 }
 
+static void answer_live_start(const struct vector *v, struct answer *a)
+{
+    int32_t *held = hold_input(a, 0, &v->in[0], sizeof *held, true);
+    uint8_t *newest = hold_input(a, 1, &v->in[1], 1, false);
+    a->refusal = ref_live_start(v->w, v->h, v->s, v->tolerance, v->percentile, held, v->in[0].length, newest, v->in[1].length);
+}
+
+static void answer_live_add(const struct vector *v, struct answer *a)
+{
+    int32_t *held = hold_input(a, 0, &v->in[0], sizeof *held, true);
+    uint8_t *newest = hold_input(a, 1, &v->in[1], 1, false);
+    a->refusal = ref_live_add(held, v->in[0].length, newest, v->in[1].length, v->in[2].data, v->in[2].length, NULL, v->grey, NULL,
+                              v->words);
+}
+
+static void answer_live_drop(const struct vector *v, struct answer *a)
+{
+    int32_t *held = hold_input(a, 0, &v->in[0], sizeof *held, true);
+    uint8_t *newest = hold_input(a, 1, &v->in[1], 1, false);
+    a->refusal = ref_live_drop(held, v->in[0].length, newest, v->in[1].length);
+}
+
+static void answer_live_offsets(const struct vector *v, struct answer *a)
+{
+    int32_t *offsets = hold(a, 0, lent_offsets(v->out[0]), 4 * v->out[0], true);
+    a->refusal = ref_live_offsets(v->in[0].data, v->in[0].length, v->in[1].data, v->in[1].length, offsets, v->out[0], &a->values[0]);
+}
+
 static void answer_p6_read(const struct vector *v, struct answer *a)
 {
     size_t start = 0, length = 0;
@@ -319,7 +367,9 @@ struct answer answer_of(const struct vector *v)
         [CALL_MADE_SERIES_WARD] = answer_series_ward, [CALL_QUADRANTS] = answer_quadrants,
         [CALL_MADE_QUADRANTS] = answer_quadrants, [CALL_PAIR_BAND] = answer_pair_band,
         [CALL_SERIES_BAND] = answer_series_band, [CALL_MADE_PAIR_BAND] = answer_pair_band,
-        [CALL_MADE_SERIES_BAND] = answer_series_band,
+        [CALL_MADE_SERIES_BAND] = answer_series_band, [CALL_LIVE_START] = answer_live_start,
+        [CALL_LIVE_ADD] = answer_live_add,   [CALL_LIVE_DROP] = answer_live_drop,
+        [CALL_LIVE_OFFSETS] = answer_live_offsets,
     };
     struct answer a = { 0 };
     answers[v->call](v, &a);

@@ -13,6 +13,7 @@ void bitmap_groups(uint64_t seed);
 void pair_groups(uint64_t seed);
 void series_groups(uint64_t seed);
 void quadrant_groups(uint64_t seed);
+void live_groups(uint64_t seed);
 void p6_groups(uint64_t seed);
 void view_groups(uint64_t seed);
 void bracket_groups(uint64_t seed);

@@ -26,6 +26,8 @@ int main(int argc, char **argv)
     end_file(crates, "vectors_series");
     quadrant_groups(seed);
     end_file(crates, "vectors_quadrants");
+    live_groups(seed);
+    end_file(crates, "vectors_live");
     p6_groups(seed);
     view_groups(seed);
     end_file(crates, "vectors_files");

@@ -119,12 +119,22 @@ bool takes_two(enum call call)
     return is_pair(call) || is_quadrants(call) || call == CALL_BLINK;
 }
 
+bool is_live(enum call call)
+{
+    return call == CALL_LIVE_START || call == CALL_LIVE_ADD || call == CALL_LIVE_DROP || call == CALL_LIVE_OFFSETS;
+}
+
+bool writes_held(enum call call)
+{
+    return is_live(call) && call != CALL_LIVE_OFFSETS;
+}
+
 /* ---- Records ---- */
 
 static size_t element_bytes(const struct vector *v, int input)
 {
     bool words = v->call == CALL_SHIFT || v->call == CALL_TOTAL || v->call == CALL_DIFFERENCE;
-    bool numbers = (is_series(v->call) || v->call == CALL_AREA) && input == 0;
+    bool numbers = (is_series(v->call) || v->call == CALL_AREA || is_live(v->call)) && input == 0;
     return words ? 8 : numbers ? 4 : 1;
 }
 
@@ -158,7 +168,18 @@ static void put_settings(const struct vector *v, uint32_t *record)
 
 static int inputs_of(enum call call)
 {
-    return call == CALL_DIFFERENCE ? 4 : call == CALL_BRACKET ? 3 : takes_two(call) || is_series(call) ? 2 : 1;
+    if (call == CALL_DIFFERENCE)
+        return 4;
+    if (call == CALL_BRACKET || call == CALL_LIVE_ADD)
+        return 3;
+    return takes_two(call) || is_series(call) || is_live(call) ? 2 : 1;
+}
+
+static size_t output_length(const struct vector *v, const struct answer *a, int output)
+{
+    if (v->call == CALL_BRACKET)
+        return a->out_bytes[output];
+    return writes_held(v->call) ? v->in[output].length : v->out[output];
 }
 
 static void put_slices(const struct vector *v, const struct answer *a, uint32_t *record)
@@ -169,7 +190,7 @@ static void put_slices(const struct vector *v, const struct answer *a, uint32_t 
     }
     for (int i = 0; i < MOST_OUTPUTS; i++)
         if (a->out[i]) {
-            record[FIELD_OUTPUT + 2 * i] = (uint32_t)(v->call == CALL_BRACKET ? a->out_bytes[i] : v->out[i]);
+            record[FIELD_OUTPUT + 2 * i] = (uint32_t)output_length(v, a, i);
             record[FIELD_OUTPUT + 2 * i + 1] = keep_contents(a->out[i], a->out_bytes[i], a->whole[i]);
         }
 }
@@ -201,7 +222,7 @@ uint32_t add(const struct vector *v)
     record[FIELD_REFUSAL] = a.refusal;
     for (int i = 0; i < MOST_VALUES; i++)
         record[FIELD_VALUES + i] = a.refusal ? 0 : a.values[i];
-    if (is_pair(v->call) || is_series(v->call) || is_quadrants(v->call))
+    if (is_pair(v->call) || is_series(v->call) || is_quadrants(v->call) || v->call == CALL_LIVE_ADD)
         put_memory(v, record);
     if (is_made(v->call))
         put_made(v, record);

@@ -35,6 +35,10 @@ enum call {
     CALL_SERIES_BAND,
     CALL_MADE_PAIR_BAND,
     CALL_MADE_SERIES_BAND,
+    CALL_LIVE_START,
+    CALL_LIVE_ADD,
+    CALL_LIVE_DROP,
+    CALL_LIVE_OFFSETS,
 };
 
 /* In either order, or with a band; pairs, series and quadrants of stored frames or made ones. */
@@ -44,6 +48,9 @@ bool is_quadrants(enum call call);
 bool is_made(enum call call);
 /* Calls that take a first and a second raster. */
 bool takes_two(enum call call);
+/* Calls on a live bracket, and those of them that write its memory: their first two inputs are also their outputs. */
+bool is_live(enum call call);
+bool writes_held(enum call call);
 
 /* Numbers of a record. */
 enum field {
@@ -75,7 +82,8 @@ struct slice {
 
 enum { MOST_OUTPUTS = 3, MOST_VALUES = 4 };
 
-/* A call, with fields as in a record; the tolerance is the band of the calls that have one. Frames made by a formula also have all
+/* A call, with fields as in a record; the tolerance is the band of the calls that have one, and the numbers of a call on a live bracket
+ * but a start are those that its memory was made with. Frames made by a formula also have all
  * made bytes, their rows a frame and the scene. */
 struct vector {
     enum call call;

@@ -3,7 +3,9 @@
 
 #include "../scenes.h"
 #include "contents.h"
+#include "held.h"
 
+#include <stdlib.h>
 #include <string.h>
 
 /* ---- Sizes ---- */
@@ -168,6 +170,82 @@ static void series_slices(struct trial *t)
     add_work(t, n);
 }
 
+/* ---- Slices of a live bracket ---- */
+
+static uint8_t *copied(const void *from, size_t bytes)
+{
+    uint8_t *copy = memory(bytes);
+    memcpy(copy, from, bytes);
+    return copy;
+}
+
+/* A session's memory, or this one. The length of the numbers is looked at first, but by a start. */
+static void add_held(struct trial *t, enum role role, bool first, uint8_t *numbers, uint8_t *newest)
+{
+    struct slice *held = add_slice(t, role, "held", sizeof(int32_t), HELD_NUMBERS);
+    size_t area = pixels(&t->made_for);
+    held->first = first;
+    held->made = t->held ? copied(t->held->numbers, HELD_NUMBERS * sizeof(int32_t)) : numbers;
+    add_slice(t, role, "newest", 1, area)->made = t->held ? copied(t->held->newest, area) : newest;
+}
+
+/* Whatever the memory holds. */
+static void live_start_slices(struct trial *t)
+{
+    add_held(t, HELD, false, NULL, NULL);
+}
+
+static uint8_t *grey_of(const struct numbers *n, const uint8_t *raster)
+{
+    uint8_t *grey = memory(pixels(n));
+    ref_grey(n->w, n->h, raster, 3 * pixels(n), grey, pixels(n));
+    return grey;
+}
+
+/* The newest frame and the new one show the same scene; where none is held, there is the grey of one all the same. */
+static void live_add_slices(struct trial *t)
+{
+    const struct numbers *n = &t->made_for;
+    size_t bytes = 3 * pixels(n);
+    if (t->held) {
+        add_held(t, HELD, true, NULL, NULL);
+        add_slice(t, INPUT, "raster", 1, bytes)->made = copied(t->held->raster, bytes);
+    } else {
+        uint8_t *both = make_rasters(n->w, n->h, 2);
+        uint32_t frames = t->want[6] ? MAX_FRAMES : random_below(MAX_FRAMES);
+        add_held(t, HELD, true, make_held(n, frames, t->want[16]), grey_of(n, both));
+        add_slice(t, INPUT, "raster", 1, bytes)->made = copied(both + bytes, bytes);
+        free(both);
+    }
+    add_work(t, n);
+}
+
+/* Where 16 is wanted, something is damaged or nothing is held. */
+static void live_drop_slices(struct trial *t)
+{
+    bool empty = t->want[16] && random_below(3) == 0;
+    uint32_t frames = empty ? 0 : 1 + random_below(MAX_FRAMES);
+    add_held(t, HELD, true, t->held ? NULL : make_held(&t->made_for, frames, t->want[16] && !empty), NULL);
+}
+
+/* How many frames a session's memory tells of. */
+static uint32_t frames_held(const struct held *held)
+{
+    uint32_t frames = (uint32_t)held->numbers[HELD_FRAMES];
+    return frames <= MAX_FRAMES ? frames : 0;
+}
+
+/* Where 10 is wanted, there is something to tell. */
+static void live_offsets_slices(struct trial *t)
+{
+    uint32_t frames = t->held ? frames_held(t->held) : t->want[10] ? 1 + random_below(MAX_FRAMES) : random_below(MAX_FRAMES + 1);
+    add_held(t, INPUT, true, t->held ? NULL : make_held(&t->made_for, frames, t->want[16]), NULL);
+    add_slice(t, OUTPUT, "offsets", sizeof(int32_t), 2 * (size_t)frames);
+    add_result(t, "n", sizeof(uint32_t));
+}
+
+/* ---- Slices of files and views ---- */
+
 static void add_file(struct trial *t)
 {
     size_t length;
@@ -310,6 +388,29 @@ ASK(ask_quadrants)
     return l->quadrants(n->w, n->h, n->s, n->tolerance, n->percentile, SLICE(0), SLICE(1), SLICE(2), a[3].at, SLICE(4), SLICE(5));
 }
 
+ASK(ask_live_start)
+{
+    return l->live_start(n->w, n->h, n->s, n->tolerance, n->percentile, SLICE(0), SLICE(1));
+}
+
+ASK(ask_live_add)
+{
+    (void)n;
+    return l->live_add(SLICE(0), SLICE(1), SLICE(2), SLICE(3), SLICE(4));
+}
+
+ASK(ask_live_drop)
+{
+    (void)n;
+    return l->live_drop(SLICE(0), SLICE(1));
+}
+
+ASK(ask_live_offsets)
+{
+    (void)n;
+    return l->live_offsets(SLICE(0), SLICE(1), SLICE(2), a[3].at);
+}
+
 ASK(ask_p6_size)
 {
     (void)n;
@@ -371,6 +472,10 @@ const struct call calls[] = {
     { "mtb_pair_band", WANTED, pair_slices, ask_pair_band, { 2, 3, 4, 15, 8, 9, 10, 11 } },
     { "mtb_series_band", WANTED, series_slices, ask_series_band, { 2, 3, 4, 15, 6, 7, 8, 9, 10, 11 } },
     { "mtb_quadrants", WANTED, quadrants_slices, ask_quadrants, { 2, 3, 4, 5, 8, 9, 10, 11 } },
+    { "mtb_live_start", WANTED, live_start_slices, ask_live_start, { 2, 3, 4, 5, 8, 9 } },
+    { "mtb_live_add", WANTED, live_add_slices, ask_live_add, { HELD_LENGTH, 16, 6, 9, 11 } },
+    { "mtb_live_drop", WANTED, live_drop_slices, ask_live_drop, { HELD_LENGTH, 16, 9 } },
+    { "mtb_live_offsets", WANTED, live_offsets_slices, ask_live_offsets, { HELD_LENGTH, 16, 9, 10 } },
     { "mtb_p6_size", CHANCE, p6_size_slices, ask_p6_size, { 1, 2, 9 } },
     { "mtb_p6_raster", CHANCE, p6_raster_slices, ask_p6_raster, { 1, 2, 9 } },
     { "mtb_p6_write", WANTED, p6_write_slices, ask_p6_write, { 2, 9, 10 } },
@@ -382,6 +487,14 @@ const struct call calls[] = {
 };
 
 const int call_count = sizeof calls / sizeof *calls;
+
+const struct call *live_call(enum live which)
+{
+    const struct call *first = calls;
+    while (first->ask != ask_live_start)
+        first++;
+    return first + which;
+}
 
 bool quartered(const struct call *call)
 {

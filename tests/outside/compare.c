@@ -12,16 +12,16 @@
 
 static uint64_t bytes_compared;
 
-static const struct library library = {
+const struct library library = {
     mtb_grey, mtb_halve, mtb_threshold, mtb_bitmaps, mtb_shift, mtb_total, mtb_difference, mtb_pair, mtb_series, mtb_pair_ward,
-    mtb_series_ward, mtb_pair_band, mtb_series_band, mtb_quadrants, mtb_p6_size, mtb_p6_raster, mtb_p6_write, mtb_common_area,
-    mtb_moved, mtb_blink_row, mtb_grey_needed, mtb_words_needed,
+    mtb_series_ward, mtb_pair_band, mtb_series_band, mtb_quadrants, mtb_live_start, mtb_live_add, mtb_live_drop, mtb_live_offsets,
+    mtb_p6_size, mtb_p6_raster, mtb_p6_write, mtb_common_area, mtb_moved, mtb_blink_row, mtb_grey_needed, mtb_words_needed,
 };
 
 static const struct library reference = {
     ref_grey, ref_halve, ref_threshold, ref_bitmaps, ref_shift, ref_total, ref_difference, ref_pair, ref_series, ref_pair_ward,
-    ref_series_ward, ref_pair_band, ref_series_band, ref_quadrants, ref_p6_size, ref_p6_raster, ref_p6_write, ref_common_area,
-    ref_moved, ref_blink_row, ref_grey_needed, ref_words_needed,
+    ref_series_ward, ref_pair_band, ref_series_band, ref_quadrants, ref_live_start, ref_live_add, ref_live_drop, ref_live_offsets,
+    ref_p6_size, ref_p6_raster, ref_p6_write, ref_common_area, ref_moved, ref_blink_row, ref_grey_needed, ref_words_needed,
 };
 
 /* Takes the band for a tolerance. */
@@ -166,6 +166,14 @@ static bool differs(char *mismatch, const struct trial *t, const struct sides *s
     return false;
 }
 
+/* For a session's next call. */
+static void hand_on(const struct trial *t, const struct sides *sides)
+{
+    for (int i = 0; i < t->slices; i++)
+        if (t->slice[i].after)
+            memcpy(t->slice[i].after, sides->library[i].at, slice_bytes(&t->slice[i]));
+}
+
 struct comparison compare(const struct call *call, const struct trial *t)
 {
     struct sides sides;
@@ -178,6 +186,7 @@ struct comparison compare(const struct call *call, const struct trial *t)
     result.differs = differs(result.mismatch, t, &sides);
     result.answer = sides.ours;
     result.bytes = bytes_compared;
+    hand_on(t, &sides);
     give_back(t, &sides);
     return result;
 }

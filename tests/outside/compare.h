@@ -14,4 +14,7 @@ struct comparison {
 
 struct comparison compare(const struct call *call, const struct trial *trial);
 
+/* What is tested. */
+extern const struct library library;
+
 #endif

@@ -1,6 +1,7 @@
 /* Asks the library and the reference the same random calls; tells each difference, and at the end how many there were. */
 #include "compare.h"
 #include "fences.h"
+#include "session.h"
 
 #include "../scenes.h"
 
@@ -11,15 +12,16 @@
 #include <string.h>
 #include <unistd.h>
 
-enum { SHOWN = 10, PROGRESS_STEPS = 20, QUICK_CASES = 5, ORDER_CASES = 4, ROUNDS_FOR_ALL = 1000, MAX_CALLS = 32, NAME_ROOM = 64 };
+enum { SHOWN = 10, PROGRESS_STEPS = 20, QUICK_CASES = 5, ORDER_CASES = 4, SESSION_ROUNDS = 2, ROUNDS_FOR_ALL = 1000, MAX_CALLS = 32, NAME_ROOM = 64 };
 enum { PATIENCE = 300 /* seconds */ };
 
 #define COUNT_OF(list) (sizeof list / sizeof *list)
 
 /* Ordinary trials; those of a given shape, at even numbers accepted, at odd ones refused; those with a slice longer than 2^32; those
- * with each two of the call's refusals; of calls with a band those with a band of 0, and those with re-exposed frames. */
-enum family { CASE, LARGE, WIDE, ORDER, ZERO, EXPOSED, FAMILIES };
-static const char *const family_names[FAMILIES] = { "case", "large", "wide", "order", "zero", "exposed" };
+ * with each two of the call's refusals; of calls with a band those with a band of 0, and those with re-exposed frames. Of a live
+ * bracket lists of calls, each call against the reference, and lists of which the library alone is asked. */
+enum family { CASE, LARGE, WIDE, ORDER, ZERO, EXPOSED, SESSION, LAW, FAMILIES };
+static const char *const family_names[FAMILIES] = { "case", "large", "wide", "order", "zero", "exposed", "session", "law" };
 
 static const struct shape plain_shapes[] = {
     { 4096, 4096, 0, 2 }, { 4096, 1, 0, 16 }, { 1, 4096, 0, 3 }, { 4095, 130, 0, 2 }, { 257, 4093, 0, 5 }, { 2049, 1025, 0, 1 },
@@ -47,9 +49,9 @@ static struct {
     uint64_t answers[MAX_CALLS][REFUSALS];
 } tally;
 
-/* The trial that is under way. */
+/* The trial that is under way: whose it is, and which call is made. In a session that is one after another. */
 static struct {
-    const struct call *call;
+    const struct call *of, *call;
     enum family family;
     uint64_t index;
 } now;
@@ -58,7 +60,7 @@ static struct {
 
 static void print_reproduction(void)
 {
-    printf("  reproduce: tests/outside/run compare --seed %" PRIu64 " --only %s --%s %" PRIu64 "\n", options.seed, now.call->name,
+    printf("  reproduce: tests/outside/run compare --seed %" PRIu64 " --only %s --%s %" PRIu64 "\n", options.seed, now.of->name,
            family_names[now.family], now.index);
 }
 
@@ -74,6 +76,14 @@ static void stopped(int signal)
     _exit(1);
 }
 
+static void print_held(const struct slice *held)
+{
+    printf("  held:");
+    for (size_t i = 0; i < held->length && i < HELD_NUMBERS; i++)
+        printf(" %" PRId32, ((const int32_t *)held->before)[i]);
+    printf("\n");
+}
+
 static void print_trial(const struct trial *t)
 {
     const struct numbers *n = &t->told;
@@ -84,6 +94,9 @@ static void print_trial(const struct trial *t)
         if (t->slice[i].role != RESULT)
             printf(" %s %zu", t->slice[i].name, t->slice[i].length + t->slice[i].unseen);
     printf("\n");
+    for (int i = 0; i < t->slices; i++)
+        if (strcmp(t->slice[i].name, "held") == 0)
+            print_held(&t->slice[i]);
 }
 
 static void print_difference(const struct trial *t, const char *mismatch)
@@ -108,12 +121,18 @@ static void print_progress(void)
 
 static bool aligns(const struct call *call)
 {
-    return tests_refusal(call, 3) && call->plan == WANTED;
+    return tests_refusal(call, 11);
 }
 
 static bool has_band(const struct call *call)
 {
     return tests_refusal(call, 15);
+}
+
+/* The call whose trials sessions are. */
+static bool has_sessions(const struct call *call)
+{
+    return call == live_call(LIVE_OFFSETS);
 }
 
 static const struct shape *shapes_of(const struct call *call, uint64_t *count)
@@ -137,6 +156,9 @@ static uint64_t planned(const struct call *call, enum family family)
         return MAX_SLICES;
     case ORDER:
         return call->plan == WANTED ? ORDER_CASES * refusal_pairs(call) : 0;
+    case SESSION:
+    case LAW:
+        return has_sessions(call) ? options.rounds / SESSION_ROUNDS : 0;
     default:
         return has_band(call) ? options.rounds : 0;
     }
@@ -147,7 +169,17 @@ static bool exists(const struct call *call, enum family family, uint64_t index)
 {
     if (family == ZERO || family == EXPOSED)
         return has_band(call);
+    if (family == SESSION || family == LAW)
+        return has_sessions(call);
     return family == CASE || index < planned(call, family);
+}
+
+/* What follows depends on the seed and the number of the trial alone. */
+static void begin_random(void)
+{
+    char name[NAME_ROOM];
+    snprintf(name, sizeof name, "%s/%s/%" PRIu64, now.of->name, family_names[now.family], now.index);
+    random_begin(options.seed, name);
 }
 
 /* Makes the trial that is under way. False: there is none of this number. */
@@ -155,9 +187,6 @@ static bool make(struct trial *t)
 {
     uint64_t count;
     const struct shape *shapes = shapes_of(now.call, &count);
-    char name[NAME_ROOM];
-    snprintf(name, sizeof name, "%s/%s/%" PRIu64, now.call->name, family_names[now.family], now.index);
-    random_begin(options.seed, name);
     switch (now.family) {
     case WIDE:
         return make_wide_trial(t, now.call, (int)now.index);
@@ -189,18 +218,45 @@ static void count(const struct trial *t, const struct comparison *comparison)
         print_difference(t, comparison->mismatch);
 }
 
-static void try(const struct call *call, enum family family, uint64_t index)
+static void try_call(void)
 {
     struct trial trial;
-    now.call = call;
-    now.family = family;
-    now.index = index;
-    alarm(PATIENCE);
     if (make(&trial)) {
-        struct comparison comparison = compare(call, &trial);
+        struct comparison comparison = compare(now.call, &trial);
         count(&trial, &comparison);
     }
     free_trial(&trial);
+}
+
+/* Call after call, up to the first difference. */
+static void try_session(void)
+{
+    struct session session;
+    bool differs = false;
+    begin_session(&session, now.family == LAW);
+    for (int step = 0; step < session.calls && !differs; step++) {
+        struct trial trial;
+        now.call = make_step(&session, step == 0, &trial);
+        struct comparison comparison = now.family == LAW ? compare_law(&session, now.call, &trial) : compare(now.call, &trial);
+        count(&trial, &comparison);
+        take_step(&session, now.call, &trial, comparison.answer);
+        free_trial(&trial);
+        differs = comparison.differs;
+    }
+    end_session(&session);
+}
+
+static void try(const struct call *call, enum family family, uint64_t index)
+{
+    now.of = now.call = call;
+    now.family = family;
+    now.index = index;
+    alarm(PATIENCE);
+    begin_random();
+    if (family == SESSION || family == LAW)
+        try_session();
+    else
+        try_call();
     tally.done++;
     print_progress();
 }
@@ -297,7 +353,7 @@ static int summary(void)
 static void usage(void)
 {
     fprintf(stderr, "options: [--seed N] [--rounds N] [--most DIFFERENCES] [--only FUNCTION] [--without FAMILY] [--FAMILY N]\n"
-                    "families: case, large, wide, order, zero, exposed\n");
+                    "families: case, large, wide, order, zero, exposed, session, law\n");
     exit(2);
 }
 

@@ -20,7 +20,7 @@ bool tests_refusal(const struct call *call, uint32_t number)
 /* The least side that refusal 4 leaves. */
 static uint32_t least_side(const struct call *call, uint32_t s)
 {
-    if (tests_refusal(call, 3))
+    if (tests_refusal(call, 3) || tests_refusal(call, 16))
         return (quartered(call) ? 8u : 4u) << s;
     return tests_refusal(call, 4) ? 2 : 1;
 }
@@ -59,7 +59,7 @@ static uint32_t choose_frames(void)
     return random_below(12) ? PICK(frames) : 1 + random_below(MAX_FRAMES);
 }
 
-static uint32_t choose_tolerance(void)
+uint32_t choose_tolerance(void)
 {
     static const uint32_t tolerances[] = { 0, 1, 4, 63, MAX_TOLERANCE };
     return random_below(2) ? PICK(tolerances) : random_below(MAX_TOLERANCE + 1);
@@ -105,8 +105,7 @@ static void choose_dependent(struct numbers *good)
 
 /* ---- Spoilt ones ---- */
 
-/* A number above the limit, often one that is good again where its upper bits are cut off. */
-static uint32_t above(uint32_t limit, uint32_t good)
+uint32_t above(uint32_t limit, uint32_t good)
 {
     const uint32_t special[] = { limit + 1, limit + 1, limit + 2, 256 + good, 65536 + good, 0x80000000 + good,
                                  UINT32_MAX, (uint32_t)random_bits() };
@@ -155,7 +154,7 @@ static void spoil_frames(struct trial *t)
         t->made_for.n = t->told.n;
 }
 
-static uint32_t bad_percentile(void)
+uint32_t bad_percentile(void)
 {
     static const uint32_t special[] = { 0, 1, 16, 18, 49, 51, 82, 84, 99, 100, 255, 256 + 50, 65536 + 17, 0x80000000 + 83, UINT32_MAX };
     uint32_t value = random_below(2) ? random_below(101) : PICK(special);
@@ -163,7 +162,7 @@ static uint32_t bad_percentile(void)
 }
 
 /* In this order, because a later number may depend on an earlier one. */
-static void spoil(struct trial *t, const struct call *call)
+void spoil_numbers(struct trial *t, const struct call *call)
 {
     if (t->want[4])
         spoil_small(t, least_side(call, t->told.s));
@@ -192,5 +191,5 @@ void choose_numbers(struct trial *t, const struct call *call, const struct shape
         take_shape(&t->told, large, least_side(call, large->s));
     choose_dependent(&t->told);
     t->made_for = t->told;
-    spoil(t, call);
+    spoil_numbers(t, call);
 }

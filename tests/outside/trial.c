@@ -19,12 +19,11 @@ static uint32_t first_wanted(const struct trial *t, const struct call *call)
 {
     for (const uint8_t *refusal = call->refusals; *refusal; refusal++)
         if (t->want[*refusal])
-            return *refusal;
+            return *refusal == HELD_LENGTH ? 9 : *refusal;
     return 0;
 }
 
-/* One refusal, or several at once. */
-static void want_refusals(struct trial *t, const struct call *call)
+void want_refusals(struct trial *t, const struct call *call)
 {
     int all = refusals_of(call);
     t->want[call->refusals[random_below((uint32_t)all)]] = true;
@@ -78,46 +77,58 @@ static size_t ample_length(size_t needed)
     return random_below(3) ? needed : needed + 1 + random_below(random_below(8) ? 9 : 2000);
 }
 
+/* Whether the length has to be just what is needed. */
+static bool is_exact(const struct slice *slice)
+{
+    return slice->role == INPUT || slice->role == HELD;
+}
+
 static void spoil_length(struct slice *slice)
 {
-    slice->length = slice->role == INPUT ? wrong_length(slice->needed) : short_length(slice->needed);
+    slice->length = is_exact(slice) ? wrong_length(slice->needed) : short_length(slice->needed);
 }
 
-static bool can_spoil(const struct slice *slice, enum role role)
+/* The refusal that looks at the slice's length. */
+static uint32_t length_refusal(const struct slice *slice)
 {
-    return slice->role == role && (role == INPUT || slice->needed > 0);
+    if (is_exact(slice))
+        return slice->first ? HELD_LENGTH : 9;
+    return slice->role == OUTPUT ? 10 : slice->role == WORK ? 11 : 0;
 }
 
-/* Spoils the length of one slice of this role, and perhaps of others. */
-static void spoil_lengths(struct trial *t, enum role role)
+static bool can_spoil(const struct slice *slice, uint32_t refusal)
+{
+    return length_refusal(slice) == refusal && (is_exact(slice) || slice->needed > 0);
+}
+
+/* Spoils the length of one slice that this refusal looks at, and perhaps of others. */
+static void spoil_lengths(struct trial *t, uint32_t refusal)
 {
     int able = 0;
     for (int i = 0; i < t->slices; i++)
-        able += can_spoil(&t->slice[i], role);
+        able += can_spoil(&t->slice[i], refusal);
     int chosen = able ? (int)random_below((uint32_t)able) : 0;
     for (int i = 0; i < t->slices; i++)
-        if (can_spoil(&t->slice[i], role) && (chosen-- == 0 || random_below(3) == 0))
+        if (can_spoil(&t->slice[i], refusal) && (chosen-- == 0 || random_below(3) == 0))
             spoil_length(&t->slice[i]);
 }
 
 static void choose_lengths(struct trial *t)
 {
+    static const uint32_t refusals[] = { 9, 10, 11, HELD_LENGTH };
     for (int i = 0; i < t->slices; i++)
         if (t->slice[i].role == OUTPUT || t->slice[i].role == WORK)
             t->slice[i].length = ample_length(t->slice[i].needed);
-    if (t->want[9])
-        spoil_lengths(t, INPUT);
-    if (t->want[10])
-        spoil_lengths(t, OUTPUT);
-    if (t->want[11])
-        spoil_lengths(t, WORK);
+    for (size_t i = 0; i < sizeof refusals / sizeof *refusals; i++)
+        if (t->want[refusals[i]])
+            spoil_lengths(t, refusals[i]);
 }
 
 /* A length that 32 bits would cut off to a good one of an input, to a short one of others. */
 static void widen(struct trial *t, const struct call *call, struct slice *slice)
 {
     slice->unseen = (size_t)1 << 32;
-    if (slice->role == INPUT || slice->role == GIVEN)
+    if (is_exact(slice) || slice->role == GIVEN)
         t->want[slice->role == GIVEN && tests_refusal(call, 8) ? 8 : 9] = true;
     else if (slice->needed > 0)
         slice->unseen -= 1 + random_below((uint32_t)slice->needed);
@@ -156,14 +167,19 @@ static void fill_slices(struct trial *t)
         fill_slice(&t->slice[i]);
 }
 
-/* What is wanted is chosen. */
-static void make_wanted(struct trial *t, const struct call *call, const struct shape *large)
+void make_slices(struct trial *t, const struct call *call)
 {
-    choose_numbers(t, call, large);
     call->slices(t);
     choose_lengths(t);
     share_inputs(t);
     fill_slices(t);
+}
+
+/* What is wanted is chosen. */
+static void make_wanted(struct trial *t, const struct call *call, const struct shape *large)
+{
+    choose_numbers(t, call, large);
+    make_slices(t, call);
     t->expected = call->plan == WANTED ? first_wanted(t, call) : UNKNOWN;
 }
 
@@ -221,5 +237,6 @@ void free_trial(struct trial *t)
     for (int i = 0; i < t->slices; i++) {
         free(t->slice[i].before);
         free(t->slice[i].exposed);
+        free(t->slice[i].after);
     }
 }
