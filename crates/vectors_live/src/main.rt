@@ -57,12 +57,15 @@ const ADD: u32 = 29;
 
 const DROP: u32 = 30;
 
+fn byte_of(bytes: &[u8], i: usize) -> u8 {
+    if i < bytes.len() { bytes[i] } else { 0 }
+}
+
+// The bytes; past them 0.
 fn load_bytes(bytes: &[u8], out: &mut [u8]) {
     let mut i: usize = 0;
     while i < out.len() {
-        if i < bytes.len() {
-            out[i] = bytes[i];
-        }
+        out[i] = byte_of(bytes, i);
         i += 1;
     }
 }
