@@ -7,12 +7,12 @@
 #include <string.h>
 #include <ucontext.h>
 
-enum { STACK = 1 << 18, FRAMES = 16, LEVELS = 9 };
+enum { STACK = 1 << 18, FRAMES = 16, LEVELS = 9, HELD = 36 };
 
 /* What the calls are made on. */
 enum { COUNTS = 9 * LEVELS * (FRAMES - 1) };
 static uint32_t w, h, s, n, number, counts[COUNTS], compared[COUNTS], percentiles[FRAMES - 1], left, right, top, bottom;
-static int32_t dx, dy, offsets[2 * FRAMES];
+static int32_t dx, dy, offsets[2 * FRAMES], held[HELD];
 static const int32_t still[2 * FRAMES];
 static size_t area, bitmap_len, grey_len, words_len, start, length, written;
 static uint8_t *rasters, *grey, *out, threshold;
@@ -49,6 +49,25 @@ static void call_quadrants(void) {
     number = mtb_quadrants(w, h, s, 4, 50, rasters, 3 * area, rasters + 3 * area, 3 * area, offsets, 8, &turned, grey, grey_len, words,
                            words_len);
 }
+/* A live bracket that holds so many frames, none of which moves; its newest grey stands in `out`. */
+static void hold(uint32_t frames) {
+    const uint32_t numbers[] = {w, h, s, 4, 50, frames};
+    for (int i = 0; i < HELD; i++)
+        held[i] = i < 6 ? (int32_t)numbers[i] : 0;
+}
+static void call_live_start(void) { number = mtb_live_start(w, h, s, 4, 50, held, HELD, out, area); }
+static void call_live_add(void) {
+    hold(1);
+    number = mtb_live_add(held, HELD, out, area, rasters, 3 * area, grey, grey_len, words, words_len);
+}
+static void call_live_drop(void) {
+    hold(FRAMES);
+    number = mtb_live_drop(held, HELD, out, area);
+}
+static void call_live_offsets(void) {
+    hold(FRAMES);
+    number = mtb_live_offsets(held, HELD, out, area, offsets, 2 * FRAMES, &left);
+}
 static void call_grey_needed(void) { number = mtb_grey_needed(w, h, s) != grey_len; }
 static void call_words_needed(void) { number = mtb_words_needed(w, h, s) != words_len; }
 static void call_p6_write(void) { number = mtb_p6_write(w, h, rasters, 3 * area, out, 3 * area + 17, &written); }
@@ -60,7 +79,7 @@ static void call_blink_row(void) {
     number = mtb_blink_row(w, h, h - 1, true, rasters, 3 * area, rasters + 3 * area, 3 * area, &start, &length);
 }
 
-enum kind { PLAIN, MOVING, LEVELLED, ALIGNING, QUARTERING };
+enum kind { PLAIN, MOVING, HOLDING, LEVELLED, ALIGNING, QUARTERING };
 
 /* The empty call first, then in an order in which each finds what it reads. */
 static const struct {
@@ -83,6 +102,10 @@ static const struct {
     {"mtb_pair_band", call_pair_band, ALIGNING},
     {"mtb_series_band", call_series_band, ALIGNING},
     {"mtb_quadrants", call_quadrants, QUARTERING},
+    {"mtb_live_start", call_live_start, HOLDING},
+    {"mtb_live_add", call_live_add, ALIGNING},
+    {"mtb_live_drop", call_live_drop, HOLDING},
+    {"mtb_live_offsets", call_live_offsets, HOLDING},
     {"mtb_grey_needed", call_grey_needed, LEVELLED},
     {"mtb_words_needed", call_words_needed, LEVELLED},
     {"mtb_p6_write", call_p6_write, PLAIN},
@@ -137,7 +160,7 @@ static void measure(int call, int32_t move_x, int32_t move_y) {
 
 /* Whether refusal 4 leaves this size and s to the call. */
 static bool large_enough(enum kind kind) {
-    return kind == ALIGNING ? grey_len > 0 : kind == QUARTERING ? mtb_grey_needed(w / 2, h / 2, s) > 0 : true;
+    return kind == ALIGNING || kind == HOLDING ? grey_len > 0 : kind == QUARTERING ? mtb_grey_needed(w / 2, h / 2, s) > 0 : true;
 }
 
 /* Every call at this size and s; what does not depend on s only at s = 0. */
@@ -145,7 +168,7 @@ static void measure_all(void) {
     static const int32_t moves[][2] = {{0, 0}, {5, -3}, {-64, 2}, {100, 1}, {-1, 5000}, {INT32_MIN, INT32_MAX}};
     for (int call = 0; call < CALLS; call++) {
         enum kind kind = calls[call].kind;
-        if (!large_enough(kind) || (s > 0 && (kind == PLAIN || kind == MOVING)))
+        if (!large_enough(kind) || (s > 0 && kind < LEVELLED))
             continue;
         for (size_t m = 0; m < (kind == MOVING ? sizeof moves / sizeof *moves : 1); m++)
             measure(call, moves[m][0], moves[m][1]);
