@@ -31,6 +31,7 @@ expect() {
 align() { "$bin/align_series" "$@"; }
 pictures() { "$bin/pictures" "$@"; }
 rotation() { "$bin/rotation" "$@"; }
+live() { "$bin/live" "$@"; }
 
 # A flat frame: flat W H FILE
 flat() {
@@ -280,6 +281,55 @@ none/slid.ppm: No such file or directory" rotation flat.ppm flat.ppm none/slid.p
 expect 1 "$still
 /dev/full: yellow arrows 12 times as long, red ones 12 times
 /dev/full: No space left on device" rotation flat.ppm flat.ppm /dev/full
+
+# Frames come and go; the offsets of two neighbours stay, whichever is the oldest.
+settings='160 by 120 pixels, s = 3, T = 0, P = 50'
+expect 0 "$settings
+first.ppm: (0, 0)
+second.ppm: (0, 0) (5, -3)
+third.ppm: (0, 0) (5, -3) (-4, 6)
+drop: (0, 0) (-9, 9)
+first.ppm: (0, 0) (-9, 9) (-5, 3)
+drop: (0, 0) (4, -6)" live first.ppm second.ppm third.ppm drop first.ppm drop
+# Refused calls change nothing, and the session goes on.
+expect 0 "$settings
+drop: refused (16): the held numbers are damaged, or there is nothing to drop
+    still no frames
+second.ppm: (0, 0)
+drop: no frames
+drop: refused (16): the held numbers are damaged, or there is nothing to drop
+    still no frames
+third.ppm: (0, 0)
+signed.ppm: (0, 0) (9, -9)
+start: no frames
+first.ppm: (0, 0)" live drop second.ppm drop drop third.ppm signed.ppm start first.ppm
+set -- flat.ppm flat.ppm flat.ppm flat.ppm
+expect 0 'flat.ppm: (0, 0) (0, 0) (0, 0) (0, 0) (0, 0) (0, 0) (0, 0) (0, 0) (0, 0) (0, 0) (0, 0) (0, 0) (0, 0) (0, 0) (0, 0) (0, 0)
+flat.ppm: refused (6): there are more than 16 frames
+    still (0, 0) (0, 0) (0, 0) (0, 0) (0, 0) (0, 0) (0, 0) (0, 0) (0, 0) (0, 0) (0, 0) (0, 0) (0, 0) (0, 0) (0, 0) (0, 0)' \
+    sh -c '"$@" | tail -n 3' sh "$bin/live" "$@" "$@" "$@" "$@" flat.ppm
+expect 0 '160 by 120 pixels, s = 4, T = 2, P = 83
+first.ppm: (0, 0)
+second.ppm: (0, 0) (5, -3)' live -s 4 -t 2 -p 83 first.ppm second.ppm
+
+usage='usage: live [-s HALVINGS] [-t TOLERANCE] [-p PERCENTILE] STEP...    a STEP is a FILE, drop or start'
+expect 2 "$usage" live
+expect 2 "$usage" live -s 3
+expect 2 "$usage" live -r 1 first.ppm
+expect 1 'the steps: there is no file among them' live start drop
+expect 1 'none.ppm: No such file or directory' live none.ppm
+expect 1 "grey.ppm: $header" live grey.ppm
+expect 1 "$settings
+first.ppm: (0, 0)
+cut.ppm: $length" live first.ppm cut.ppm
+expect 1 "$settings
+first.ppm: (0, 0)
+upright.ppm: not of the first frame's size" live first.ppm upright.ppm
+expect 1 'the bracket: refused (3): there are more than 8 halvings' live -s 9 first.ppm
+expect 1 'the bracket: refused (4): a side is too short for this many halvings' live -s 5 first.ppm
+expect 1 'the bracket: refused (4): a side is too short for this many halvings' live tiny.ppm
+expect 1 'the bracket: refused (5): the tolerance is above 64' live -t 65 first.ppm
+expect 1 'the bracket: refused (8): the percentile is not 17, 50 or 83' live -p 51 first.ppm
 
 echo "$trials tried, $failures failed"
 [ "$failures" = 0 ]

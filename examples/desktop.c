@@ -24,6 +24,8 @@ static const char *const meanings[] = {
     [MTB_FAR_OFFSET] = "an offset is outside -32768 to 32767",
     [MTB_NOTHING_COMMON] = "the frames show no area in common",
     [MTB_BAD_ROW] = "there is no such row",
+    [MTB_BAD_BAND] = "the band is above 16",
+    [MTB_BAD_HELD] = "the held numbers are damaged, or there is nothing to drop",
 };
 
 void fail(const char *what, const char *why)
@@ -33,11 +35,16 @@ void fail(const char *what, const char *why)
     exit(EXIT_FAILURE);
 }
 
+const char *meaning_of(uint32_t refusal)
+{
+    return meanings[refusal];
+}
+
 void insist(const char *what, uint32_t refusal)
 {
     if (refusal != MTB_ACCEPTED) {
         char why[80];
-        snprintf(why, sizeof why, "refused (%d): %s", (int)refusal, meanings[refusal]);
+        snprintf(why, sizeof why, "refused (%d): %s", (int)refusal, meaning_of(refusal));
         fail(what, why);
     }
 }

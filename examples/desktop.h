@@ -17,6 +17,9 @@ int read_options(int argc, char **argv, const char *known, uint32_t *settings);
 /* Five halvings, for moves of up to 63 pixels each way, or as many as leave sides of 8 pixels: fewer decide by chance. */
 uint32_t fitting_halvings(uint32_t w, uint32_t h);
 
+/* A refusal in words. */
+const char *meaning_of(uint32_t refusal);
+
 /* The functions below that cannot do their work say why on standard error and end the program with status 1. */
 
 /* Memory for `count` things of `size` bytes each, never NULL. */
