@@ -156,15 +156,6 @@ static void print_line(const char *kind, const struct job *j, enum content conte
     fflush(stdout);
 }
 
-/* Reads the frames once, so that each contestant finds the caches alike, whoever went before it. */
-static void read_frames(const struct job *j)
-{
-    uint8_t sum = 0;
-    for (size_t i = 0; i < j->n * raster_bytes(j); i++)
-        sum ^= j->rasters[i];
-    __asm__ volatile("" : : "r"(sum)); /* so that the loop is not left out */
-}
-
 /* One turn: every contestant once, in an order of its own. */
 static void take_turn(const struct job *j, const struct memory *m, struct answer answers[],
                       uint64_t times[][MAX_TURNS], uint32_t turn, uint32_t *state)
@@ -177,7 +168,7 @@ static void take_turn(const struct job *j, const struct memory *m, struct answer
     }
     for (size_t k = 0; k < contestants_len; k++) {
         size_t c = order[k];
-        read_frames(j);
+        read_once(j->rasters, j->n * raster_bytes(j));
         uint64_t start = cpu_ns();
         contestants[c].run(j, m, &answers[c]);
         times[c][turn] = cpu_ns() - start;

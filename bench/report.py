@@ -29,6 +29,8 @@ BEFORE_SHIFT = {(640, 480): 31.96, (1920, 1080): 30.63}
 SHIFTS = 7 * 7  # moves of the window of shifts
 # Who takes the quadrants of a pair, or the pair: by name, in the table.
 QUADRANTS = {LIBRARY: "`mtb_quadrants`", "pair": "`mtb_pair`", "four pairs": "four pairs", CAREFUL: CAREFUL}
+# Who aligns the second frame with the first: by name, in the table.
+LIVE = {LIBRARY: "`mtb_live_add`", "pair": "`mtb_pair`"}
 ASKED = ((640, 480), (1920, 1080), (4096, 4096))  # the sizes of our goals
 LARGE = 1920 * 1080  # goals against OpenCV and memcpy hold from here on
 WINDOW = 65 * 65  # moves of the window of single difference calls
@@ -51,18 +53,20 @@ Time = namedtuple("Time", "median least turns offset true to_library")
 Calls = namedtuple("Calls", "median least to_library")
 # the quadrants of a pair, or the pair: milliseconds, and how many times the time that the library takes for the quadrants
 Quartered = namedtuple("Quartered", "median to_library")
+# a frame added to a live bracket, or the pair: milliseconds, and how many times the time of the frame added
+Added = namedtuple("Added", "median to_library")
 # one shift: microseconds, and how many times the library's time
 Shifted = namedtuple("Shifted", "median to_library")
 
 
 class Results:
     """What was measured: times[job][name] with freed memory kept, default[job][name] with the C library's own ways,
-    window[name] of single difference calls, quadrants[size][name], shifts[size][name], facts, agreement, and the profiles in the folder."""
+    window[name] of single difference calls, quadrants[size][name], live[size][name], shifts[size][name], facts, agreement, and the profiles in the folder."""
 
     def __init__(self, folder):
         self.folder = folder
-        self.times, self.default, self.window, self.quadrants, self.shifts, self.facts = {}, {}, {}, {}, {}, {}
-        self.agreed, self.agreed_quadrants, self.agreed_shifts = (0, 0), (0, 0), 0
+        self.times, self.default, self.window, self.quadrants, self.live, self.shifts, self.facts = {}, {}, {}, {}, {}, {}, {}
+        self.agreed, self.agreed_quadrants, self.agreed_live, self.agreed_shifts = (0, 0), (0, 0), (0, 0), 0
         with open(os.path.join(folder, "results.tsv")) as lines:
             for line in lines:
                 self.take(line.rstrip("\n").split("\t"))
@@ -75,6 +79,11 @@ class Results:
             self.agreed = (int(words[1]), int(words[2]))
         elif kind == "agree quadrants":
             self.agreed_quadrants = (int(words[1]), int(words[2]))
+        elif kind == "agree live":
+            self.agreed_live = (int(words[1]), int(words[2]))
+        elif kind == "live":
+            times = self.live.setdefault((int(words[1]), int(words[2])), {})
+            times[words[3]] = Added(int(words[4]) / 1e6, float(words[5]))
         elif kind == "agree shift":
             self.agreed_shifts = int(words[1])
         elif kind == "shift":
@@ -113,6 +122,10 @@ class Results:
     def counted_quadrants(self, size, name):
         """Instructions a pixel of the frame, of its quadrants or of the pair; None where they were not counted."""
         return sum(self.profile("quadrants", name, *size).values()) / (size[0] * size[1]) or None
+
+    def counted_live(self, size, name):
+        """Instructions a pixel of a frame added, or of the pair; None where they were not counted."""
+        return sum(self.profile("live", name, *size).values()) / (size[0] * size[1]) or None
 
     def counted_shift(self, size, name):
         """Instructions a word of the bitmap of one shift; None where they were not counted."""
@@ -301,6 +314,18 @@ def quadrants_counted(results):
     return table(["instructions a pixel, s = 5", *QUADRANTS.values()], rows)
 
 
+def live_table(results):
+    """A row each size: a frame added to a live bracket, and the pair of the same two."""
+    rows = [[f"{w}×{h}", *(milliseconds(times[name].median) for name in LIVE), shown(ratio(times, LIBRARY, "pair"))]
+            for (w, h), times in results.live.items()]
+    return table(["s = 6", *(f"{title}, ms" for title in LIVE.values()), "added / pair"], rows)
+
+
+def live_counted(results):
+    rows = [[f"{w}×{h}", *(shown(results.counted_live((w, h), name)) for name in LIVE)] for w, h in COUNTED_SIZES]
+    return table(["instructions a pixel, s = 6", *LIVE.values()], rows)
+
+
 def shift_table(results):
     """A row each size: a shift by each contestant, and the bitmap copied."""
     names = (LIBRARY, CAREFUL, MEMCPY)
@@ -411,10 +436,21 @@ def goal_band(results):
     return Goal("a pair by band at most 1.05 times the pair by tolerance", text, "met" if most <= 1.05 else "missed")
 
 
+def goal_live(results):
+    """A frame added against the pair, at every size."""
+    ratios = [(ratio(times, LIBRARY, "pair"), size) for size, times in results.live.items()]
+    text = ", ".join(f"{r:.2f} at {w}×{h}" for r, (w, h) in ratios)
+    counted = [[results.counted_live(size, name) for name in LIVE] for size in COUNTED_SIZES]
+    if None not in sum(counted, []):
+        text += "; instructions " + ", ".join(f"{added / pair:.3f}" for added, pair in counted)
+    met = "met" if max(ratios)[0] <= 1.005 else "missed"
+    return Goal("a frame added to a live bracket in a pair's time at most", text, met)
+
+
 def goals(results):
     large = [j for j in results.pairs() if pixels(j) >= LARGE]
     return [goal_careful(results), goal_before(results), goal_opencv(results, large), goal_memcpy(results, large),
-            goal_linear(results), goal_s(results), goal_shift(results), goal_band(results)]
+            goal_linear(results), goal_s(results), goal_shift(results), goal_band(results), goal_live(results)]
 
 
 def machine(results):
@@ -456,6 +492,7 @@ def document(results):
         text = f.read()
     jobs, pairs = results.agreed
     alike, turned = results.agreed_quadrants
+    brackets, frames = results.agreed_live
     few, many = turns(results)
     parts = {
         "busy": busy(results),
@@ -468,6 +505,9 @@ def document(results):
         "window": window_table(results),
         "quadrants": quadrants_table(results),
         "quartered": quadrants_counted(results),
+        "live": live_table(results),
+        "lived": live_counted(results),
+        "live_alike": f"{brackets} random ones of {frames} frames in all",
         "shifts": shift_table(results),
         "shifted": shift_counted(results),
         "shifts_alike": f"{results.agreed_shifts} random bitmaps and moves",
@@ -498,8 +538,8 @@ def main():
     with open(os.path.join(docs, "benchmark.svg"), "w") as f:
         f.write(picture(results))
     for text in (pair_table(results), default_table(results), series_table(results), order_table(results),
-                 numbers_table(results), window_table(results), quadrants_table(results), quadrants_counted(results),
-                 shift_table(results), shift_counted(results)):
+                 numbers_table(results), window_table(results), quadrants_table(results), quadrants_counted(results), live_table(results),
+                 live_counted(results), shift_table(results), shift_counted(results)):
         print(text + "\n")
     for goal in goals(results):
         print(f"{goal.met}: {goal.text}: {goal.measured}")

@@ -24,6 +24,14 @@ void *touched(size_t bytes)
     return p;
 }
 
+void read_once(const uint8_t *bytes, size_t count)
+{
+    uint8_t sum = 0;
+    for (size_t i = 0; i < count; i++)
+        sum ^= bytes[i];
+    __asm__ volatile("" : : "r"(sum)); /* so that the loop is not left out */
+}
+
 uint64_t cpu_ns(void)
 {
     struct timespec t;

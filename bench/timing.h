@@ -13,6 +13,9 @@ _Noreturn void fail(const char *why);
 /* Memory that has been written once, so that no page is missing when the clock runs. */
 void *touched(size_t bytes);
 
+/* Reads the bytes, so that each contestant finds the caches alike, whoever went before it. */
+void read_once(const uint8_t *bytes, size_t count);
+
 /* The CPU time of the process. */
 uint64_t cpu_ns(void);
 
