@@ -110,7 +110,8 @@ static uint32_t step(struct session *s, const struct vector *v)
 }
 
 /* Shapes of 192 pixels with the most halvings that each allows. */
-static const uint32_t shapes[][3] = { { 16, 12, 1 }, { 12, 16, 1 }, { 8, 24, 1 }, { 24, 8, 1 }, { 48, 4, 0 }, { 4, 48, 0 }, { 6, 32, 0 } };
+static const uint32_t shapes[][3] = { { 16, 12, 1 }, { 12, 16, 1 }, { 8, 24, 1 }, { 24, 8, 1 },
+                                      { 48, 4, 0 },  { 4, 48, 0 },  { 6, 32, 0 } };
 
 static void start(struct session *s, struct bracket set)
 {
@@ -251,47 +252,40 @@ static uint32_t add_on(enum call call, struct bracket set, const struct memory *
     return add(&v);
 }
 
-/* Each of the six numbers just inside and outside its limits. A side within its limits that the lengths do not suit is 9. */
-static void add_limits(struct bracket set, int place, const int32_t *bad, int bads, const int32_t *good, int goods)
+/* A number just outside its limits, and further, and just inside. */
+static const struct limits {
+    int place, bads, goods;
+    int32_t bad[14], good[4];
+} limits[] = {
+    { 0, 10, 3, { 0, -1, -17, 15, 1, 4097, 65536 + 17, INT32_MAX, INT32_MIN, INT32_MIN + 16 }, { 16, 17, 4096 } },
+    { 1, 10, 3, { 0, -1, -17, 15, 1, 4097, 65536 + 17, INT32_MAX, INT32_MIN, INT32_MIN + 16 }, { 16, 17, 4096 } },
+    { 2, 9, 3, { 3, 8, 9, -1, 256, 65536, INT32_MAX, INT32_MIN, INT32_MIN + 2 }, { 0, 1, 2 } },
+    { 3, 9, 2, { 65, 66, -1, -64, 256, 256 + 5, INT32_MAX, INT32_MIN, INT32_MIN + 5 }, { 0, 64 } },
+    { 4, 14, 3, { 0, 16, 18, 49, 51, 82, 84, 100, -17, -50, -83, 256 + 50, INT32_MAX, INT32_MIN }, { 17, 50, 83 } },
+    { 5, 9, 4, { 17, 18, -1, -3, 256, 65536 + 3, INT32_MAX, INT32_MIN, INT32_MIN + 3 }, { 0, 1, 15, 16 } },
+};
+
+/* A side within its limits that the lengths do not suit is 9. */
+static void add_limits(struct bracket set, const struct limits *of)
 {
     struct memory memory = memory_of(set);
     for (int i = PAIRS_PLACE; i < HELD; i++)
         memory.numbers[i] = random_between(-1, 1); /* within the limits of every s */
-    for (int i = 0; i < bads + goods; i++)
+    for (int i = 0; i < of->bads + of->goods; i++)
         for (int c = 0; c < 3; c++) {
-            memory.numbers[place] = i < bads ? bad[i] : good[i - bads];
-            uint32_t number = add_on(on_memory[c], set, &memory);
-            must((number == 16) == (i < bads || (place == FRAMES_PLACE && memory.numbers[place] == 0 && c == 1)),
+            int32_t number = i < of->bads ? of->bad[i] : of->good[i - of->bads];
+            bool empty = of->place == FRAMES_PLACE && number == 0 && on_memory[c] == CALL_LIVE_DROP;
+            memory.numbers[of->place] = number;
+            must((add_on(on_memory[c], set, &memory) == 16) == (i < of->bads || empty),
                  "16 is given beyond a limit, and to a drop with nothing held");
         }
 }
 
-#define LIMITS(place, ...) add_limits(set, place, bad, COUNT_OF(bad), (const int32_t[]){ __VA_ARGS__ }, COUNT_OF(((int32_t[]){ __VA_ARGS__ })))
-
 static void numbers(void)
 {
-    struct bracket set = { 17, 16, 2, 5, 50, 3 };
     begin_group("live bracket: the six numbers at their limits");
-    for (int side = 0; side < 2; side++) {
-        static const int32_t bad[] = { 0, -1, -17, 15, 1, 4097, 65536 + 17, INT32_MAX, INT32_MIN, INT32_MIN + 16 };
-        LIMITS(side, 16, 17, 4096);
-    }
-    {
-        static const int32_t bad[] = { 3, 8, 9, -1, 256, 65536, INT32_MAX, INT32_MIN, INT32_MIN + 2 };
-        LIMITS(2, 0, 1, 2);
-    }
-    {
-        static const int32_t bad[] = { 65, 66, -1, -64, 256, 256 + 5, INT32_MAX, INT32_MIN, INT32_MIN + 5 };
-        LIMITS(3, 0, 64);
-    }
-    {
-        static const int32_t bad[] = { 0, 16, 18, 49, 51, 82, 84, 100, -17, -50, -83, 256 + 50, INT32_MAX, INT32_MIN };
-        LIMITS(4, 17, 50, 83);
-    }
-    {
-        static const int32_t bad[] = { 17, 18, -1, -3, 256, 65536 + 3, INT32_MAX, INT32_MIN, INT32_MIN + 3 };
-        LIMITS(FRAMES_PLACE, 0, 1, 15, 16);
-    }
+    for (int i = 0; i < COUNT_OF(limits); i++)
+        add_limits((struct bracket){ 17, 16, 2, 5, 50, 3 }, &limits[i]);
 }
 
 /* One of the offsets at, or one beyond, its limit, or as far as it goes; in use or not. */
@@ -404,7 +398,8 @@ static void break_side(struct vector *v)
 /* A setting, or the first pair's offset. */
 static void break_held(struct vector *v)
 {
-    static const int32_t bad[][2] = { { 0, 4097 }, { 1, -1 }, { 2, 2 }, { 3, 65 }, { 4, 51 }, { PAIRS_PLACE, 4 }, { PAIRS_PLACE + 1, -4 } };
+    static const int32_t bad[][2] = { { 0, 4097 }, { 1, -1 },          { 2, 2 },              { 3, 65 },
+                                      { 4, 51 },   { PAIRS_PLACE, 4 }, { PAIRS_PLACE + 1, -4 } };
     const int32_t *which = bad[random_below(COUNT_OF(bad))];
     change(v, which[0], which[1]);
 }
@@ -417,7 +412,7 @@ static void break_held_or_empty(struct vector *v)
         break_held(v);
 }
 
-/* All pairs are in use, and 0. */
+/* The pairs that come into use are (0,0). */
 static void break_full(struct vector *v)
 {
     change(v, FRAMES_PLACE, MAX_FRAMES);
@@ -425,13 +420,20 @@ static void break_full(struct vector *v)
 
 static void refusals(void)
 {
-    static const struct breaker of_start[] = { { 2, false, break_size },      { 3, false, break_halvings },   { 4, false, break_side },
-                                               { 5, false, break_tolerance }, { 8, false, break_percentile }, { 9, true, break_start_lengths } };
-    static const struct breaker of_add[] = { { 9, true, break_numbers_length }, { 16, true, break_held },  { 6, true, break_full },
-                                             { 9, true, break_newest_or_raster }, { 11, true, break_memory } };
-    static const struct breaker of_drop[] = { { 9, true, break_numbers_length }, { 16, true, break_held_or_empty }, { 9, true, break_newest } };
-    static const struct breaker of_tell[] = { { 9, true, break_numbers_length }, { 16, true, break_held }, { 9, true, break_newest },
-                                              { 10, true, break_output } };
+    static const struct breaker of_start[] = {
+        { 2, false, break_size },      { 3, false, break_halvings },   { 4, false, break_side },
+        { 5, false, break_tolerance }, { 8, false, break_percentile }, { 9, true, break_start_lengths },
+    };
+    static const struct breaker of_add[] = {
+        { 9, true, break_numbers_length },   { 16, true, break_held },    { 6, true, break_full },
+        { 9, true, break_newest_or_raster }, { 11, true, break_memory },
+    };
+    static const struct breaker of_drop[] = {
+        { 9, true, break_numbers_length }, { 16, true, break_held_or_empty }, { 9, true, break_newest },
+    };
+    static const struct breaker of_tell[] = {
+        { 9, true, break_numbers_length }, { 16, true, break_held }, { 9, true, break_newest }, { 10, true, break_output },
+    };
     struct bracket set = { 9, 8, 1, 0, 50, 3 };
     struct memory memory = memory_of(set), garbage;
     fill_any(&garbage);

@@ -108,8 +108,8 @@ uint32_t ref_moved(uint32_t w, uint32_t h, int32_t dx, int32_t dy, const uint8_t
 uint32_t ref_blink_row(uint32_t w, uint32_t h, uint32_t y, bool second, const uint8_t *first_raster, size_t first_len,
                        const uint8_t *second_raster, size_t second_len, size_t *start, size_t *length);
 
-/* Work memory of pair, series and the live bracket's add, and of quadrants with a quadrant's size: bytes, and 64-bit words; 0 when the sizes or s are
- * refused. */
+/* Work memory of pair, series and the live bracket's add, and of quadrants with a quadrant's size: bytes, and 64-bit words; 0 when
+ * the sizes or s are refused. */
 size_t ref_grey_needed(uint32_t w, uint32_t h, uint32_t s);
 size_t ref_words_needed(uint32_t w, uint32_t h, uint32_t s);
 

@@ -1,6 +1,6 @@
 /* The reference itself against what documents 01 and 02 print: their worked examples, also those that the library proves, and the
- * table of numbers; and a tie, compared numbers, bands, comments, quadrants and a live bracket worked by hand. Prints what it compared; exit status 1
- * when something differs. */
+ * table of numbers; and a tie, compared numbers, bands, comments, quadrants and a live bracket worked by hand. Prints what it
+ * compared; exit status 1 when something differs. */
 #include "reference.h"
 
 #include <stdio.h>
@@ -741,7 +741,8 @@ static void check_damaged(void)
         expect("offsets out of use", all_give(&live, at + 2, 2, 0, 0, 0) && all_give(&live, at + 28, INT32_MIN, 0, 0, 0));
     }
     live.held[8] = 77;
-    expect("unused ones are written 0 by an add", add_from(&live, 4, 4) == 0 && live.held[8] == 0 && live.held[9] == 1 && live.held[35] == 0);
+    expect("unused ones are written 0 by an add",
+           add_from(&live, 4, 4) == 0 && live.held[8] == 0 && live.held[9] == 1 && live.held[35] == 0);
     live.held[35] = 77;
     expect("and by a drop", drop(&live) == 0 && live.held[35] == 0);
 }
@@ -787,7 +788,8 @@ static void check_live_order(void)
     memset(full.held + 6, 0, 30 * sizeof *full.held);
     expect("tell: 9, 10", ref_live_offsets(full.held, 36, full.newest, 63, full.offsets, 31, &full.told) == 9 &&
                               ref_live_offsets(full.held, 36, full.newest, 64, full.offsets, 31, &full.told) == 10 && full.told == 99);
-    expect("tell: nothing into nothing", ref_live_offsets(live.held, 36, live.newest, 64, live.offsets, 0, &live.told) == 0 && live.told == 0);
+    expect("tell: nothing into nothing",
+           ref_live_offsets(live.held, 36, live.newest, 64, live.offsets, 0, &live.told) == 0 && live.told == 0);
 }
 
 /* Frames come and go: "the offsets told are those of the series call on the frames then held, in order". */

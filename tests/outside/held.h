@@ -12,8 +12,8 @@ struct held {
     const uint8_t *newest, *raster;
 };
 
-/* The numbers of a bracket of this size and these settings that holds so many frames: its pairs' offsets within their limits, often at
- * the ends, and anything where a number is unused. Where `damaged`, one number in use breaks its limit. */
+/* The numbers of a bracket of this size and these settings that holds so many frames: its pairs' offsets within their limits,
+ * often at the ends, and anything where a number is unused. Where `damaged`, one number in use breaks its limit. */
 uint8_t *make_held(const struct numbers *numbers, uint32_t frames, bool damaged);
 
 /* Breaks the limit of one number in use. */

@@ -12,7 +12,8 @@
 #include <string.h>
 #include <unistd.h>
 
-enum { SHOWN = 10, PROGRESS_STEPS = 20, QUICK_CASES = 5, ORDER_CASES = 4, SESSION_ROUNDS = 2, ROUNDS_FOR_ALL = 1000, MAX_CALLS = 32, NAME_ROOM = 64 };
+enum { SHOWN = 10, PROGRESS_STEPS = 20, ROUNDS_FOR_ALL = 1000, MAX_CALLS = 32, NAME_ROOM = 64 };
+enum { QUICK_CASES = 5, ORDER_CASES = 4, SESSION_ROUNDS = 2 };
 enum { PATIENCE = 300 /* seconds */ };
 
 #define COUNT_OF(list) (sizeof list / sizeof *list)

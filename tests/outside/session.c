@@ -72,8 +72,9 @@ void end_session(struct session *session)
 /* More adds than drops, so that the bracket fills; a start now and then. */
 static enum live choose_call(void)
 {
-    static const enum live of[] = { LIVE_ADD, LIVE_ADD, LIVE_ADD, LIVE_ADD, LIVE_ADD, LIVE_DROP, LIVE_DROP, LIVE_OFFSETS, LIVE_OFFSETS };
-    return random_below(24) ? of[random_below(9)] : LIVE_START;
+    static const enum live often[] = { LIVE_ADD,  LIVE_ADD,  LIVE_ADD,     LIVE_ADD,    LIVE_ADD,
+                                       LIVE_DROP, LIVE_DROP, LIVE_OFFSETS, LIVE_OFFSETS };
+    return random_below(24) ? often[random_below(9)] : LIVE_START;
 }
 
 const struct call *make_step(struct session *session, bool first, struct trial *t)
@@ -107,9 +108,11 @@ const struct call *make_step(struct session *session, bool first, struct trial *
 
 /* ---- After the call ---- */
 
-static void take_memory(struct session *session, int m, const void *numbers, size_t numbers_len, const void *newest, size_t newest_len)
+static void take_memory(struct session *session, int m, const void *numbers, size_t numbers_len, const void *newest,
+                        size_t newest_len)
 {
-    size_t count = numbers_len < HELD_NUMBERS ? numbers_len : HELD_NUMBERS, bytes = newest_len < session->area ? newest_len : session->area;
+    size_t count = numbers_len < HELD_NUMBERS ? numbers_len : HELD_NUMBERS;
+    size_t bytes = newest_len < session->area ? newest_len : session->area;
     memcpy(session->memory[m].numbers, numbers, count * sizeof(int32_t));
     memcpy(session->memory[m].newest, newest, bytes);
 }
@@ -251,7 +254,8 @@ static uint32_t series_of(const struct session *session, int32_t offsets[2 * MAX
     static uint32_t counts[COUNTS], compared[COUNTS];
     const struct numbers *n = &session->settings;
     uint32_t percentiles[MAX_FRAMES];
-    size_t one = raster_bytes(session), grey_len = mtb_grey_needed(n->w, n->h, n->s), words_len = mtb_words_needed(n->w, n->h, n->s);
+    size_t one = raster_bytes(session);
+    size_t grey_len = mtb_grey_needed(n->w, n->h, n->s), words_len = mtb_words_needed(n->w, n->h, n->s);
     uint8_t *rasters = memory(session->held * one), *grey = memory(grey_len);
     uint64_t *words = memory(words_len * sizeof *words);
     for (uint32_t k = 0; k < session->held; k++) {
