@@ -82,9 +82,9 @@ struct slice {
 
 enum { MOST_OUTPUTS = 3, MOST_VALUES = 4 };
 
-/* A call, with fields as in a record; the tolerance is the band of the calls that have one, and the numbers of a call on a live bracket
- * but a start are those that its memory was made with. Frames made by a formula also have all
- * made bytes, their rows a frame and the scene. */
+/* A call, with fields as in a record; the tolerance is the band of the calls that have one, and the numbers of a call on a live
+ * bracket, but of a start, are those that its memory was made with. Frames made by a formula also have all made bytes, their rows a
+ * frame and the scene. */
 struct vector {
     enum call call;
     uint32_t w, h, s, tolerance, percentile, n, r;
