@@ -27,9 +27,9 @@
  *
  * RESULTS
  *   Every function but the last two of "Alignment" returns 0 when it has accepted its inputs, else the
- *   number of a refusal, listed below. A refused call has changed nothing: no output, no work memory,
- *   nothing behind a pointer. An accepted call writes what is needed to the beginning of an output; the
- *   excess of a longer one stays as it was.
+ *   number of a refusal, listed below. A refused call has changed nothing: no output, nothing held, no
+ *   work memory, nothing behind a pointer. An accepted call writes what is needed to the beginning of an
+ *   output; the excess of a longer one stays as it was.
  *
  * WHAT IS LENT
  *   A slice is a pointer and a number of elements (not of bytes). All memory is the caller's, and lent
@@ -40,15 +40,17 @@
  *   - no pointer is NULL, also where its length is 0;
  *   - a pointer is aligned for its type (uint64_t and size_t to 8 bytes, uint32_t and int32_t to 4),
  *     and that many elements are there;
- *   - what a call may write (outputs, work memory, results behind pointers) overlaps nothing else that
- *     is lent to the same call; inputs, the const ones, may overlap each other or be the same;
+ *   - what a call may write (outputs, held and newest, work memory, results behind pointers) overlaps
+ *     nothing else that is lent to the same call; inputs, the const ones, may overlap each other or be
+ *     the same;
  *   - nobody else writes any of it before the call returns.
  *   What outputs and work memory hold before a call does not matter. held and newest are inputs and
  *   outputs of the same call: what they hold before it matters, but for mtb_live_start.
  *
  * THREADS
- *   The functions share no state. Any number of threads may be inside them at once, each with outputs
- *   and work memory of its own; inputs may be shared. Every call returns; none waits for anything.
+ *   The functions share no state. Any number of threads may be inside them at once, each with outputs,
+ *   live brackets and work memory of its own; inputs may be shared. Every call returns; none waits for
+ *   anything.
  *
  * STACK
  *   Bytes, with stacked arguments and return address:
@@ -283,10 +285,10 @@ uint32_t mtb_quadrants(uint32_t w, uint32_t h, uint32_t s, uint32_t tolerance, u
                        uint64_t *words, size_t words_len);
 
 /*
- * The work memory of these seven and of mtb_live_add; of mtb_quadrants with a quadrant's w/2 and h/2 for w and h. Bytes of
- * grey: twice the pixels of all levels. Words of 64 bits: 6*W*h. For 1920 by 1080 and s = 6 that is
- * 5529000 bytes and 194400 words; the most, for 4096 by 4096 and s = 8, is 44739072 bytes and 1572864
- * words.
+ * The work memory of these seven and of mtb_live_add; of mtb_quadrants with a quadrant's w/2 and h/2
+ * for w and h. Bytes of grey: twice the pixels of all levels. Words of 64 bits: 6*W*h. For 1920 by 1080
+ * and s = 6 that is 5529000 bytes and 194400 words; the most, for 4096 by 4096 and s = 8, is 44739072
+ * bytes and 1572864 words.
  * These two return 0 where refusal 2, 3 or 4 applies to w, h and s.
  */
 size_t mtb_grey_needed(uint32_t w, uint32_t h, uint32_t s);

@@ -212,7 +212,7 @@ static void live_add_slices(struct trial *t)
         add_slice(t, INPUT, "raster", 1, bytes)->made = copied(t->held->raster, bytes);
     } else {
         uint8_t *both = make_rasters(n->w, n->h, 2);
-        uint32_t frames = t->want[6] ? MAX_FRAMES : random_below(MAX_FRAMES);
+        uint32_t frames = t->want[6] ? MAX_FRAMES : random_below(2) ? n->n - 1 : random_below(MAX_FRAMES);
         add_held(t, HELD, true, make_held(n, frames, t->want[16]), grey_of(n, both));
         add_slice(t, INPUT, "raster", 1, bytes)->made = copied(both + bytes, bytes);
         free(both);
