@@ -884,10 +884,10 @@ static bool far_pair(const struct held *held)
     for (uint32_t i = 0; i <= held->s; i++)
         most *= 2;
     most -= 1;
+    bool far = false;
     for (uint32_t j = 1; j < held->frames; j++)
-        if (llabs(held->d[j].dx) > most || llabs(held->d[j].dy) > most)
-            return true;
-    return false;
+        far = far || llabs(held->d[j].dx) > most || llabs(held->d[j].dy) > most;
+    return far;
 }
 
 /* False: 16, "held memory whose … break their limits". A number below 0 is taken for one above every limit. Unused ones are "never
