@@ -57,6 +57,7 @@
  *     mtb_pair, mtb_pair_ward                         6152 + 416*s, so 9480 at most
  *     mtb_pair_band                                   6168 + 416*s, so 9496 at most
  *     mtb_series, mtb_series_ward, mtb_series_band    6408 + 416*s, so 9736 at most
+ *     mtb_live_add                                    6600 + 416*s, so 9928 at most
  *     mtb_quadrants                                   6664 + 416*s, so 9992 at most
  *     mtb_threshold 4160, mtb_difference 1040, mtb_shift 688; every other function: below 400
  *   Measured, not proved (tests/outside/run stack): each call was run on a painted stack, and the deepest changed
