@@ -238,7 +238,9 @@ static void try_session(void)
     for (int step = 0; step < session.calls && !differs; step++) {
         struct trial trial;
         now.call = make_step(&session, step == 0, &trial);
-        struct comparison comparison = now.family == LAW ? compare_law(&session, now.call, &trial) : compare(now.call, &trial);
+        bool alone = now.family == LAW;
+        struct comparison comparison = alone ? compare_memories(&session, now.call, &trial) : compare(now.call, &trial);
+        compare_series(&session, now.call, &trial, &comparison);
         count(&trial, &comparison);
         take_step(&session, now.call, &trial, comparison.answer);
         free_trial(&trial);

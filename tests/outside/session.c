@@ -10,8 +10,8 @@
 
 enum { FRAMES = 24, LEAST_CALLS = 12, MORE_CALLS = 50, LEAST_SIDE = 4, MORE_SIDE = 18, MOST_SIDE = 64, MOST_S = 2 };
 
-/* The slices of every call on a live bracket, and of an add. */
-enum { NUMBERS, NEWEST, RASTER };
+/* The slices of every call on a live bracket; of an add; of what is told. */
+enum { NUMBERS, NEWEST, RASTER, OFFSETS = RASTER, TOLD };
 
 /* ---- Begin and end ---- */
 
@@ -20,7 +20,7 @@ static size_t raster_bytes(const struct session *session)
     return 3 * session->area;
 }
 
-static void choose_settings(struct session *session, struct numbers *n)
+static void choose_settings(const struct session *session, struct numbers *n)
 {
     static const uint32_t percentiles[] = { 17, 50, 83 };
     n->tolerance = session->re_exposed ? 0 : choose_tolerance() / (1 + random_below(8));
@@ -101,7 +101,7 @@ const struct call *make_step(struct session *session, bool first, struct trial *
     t->held = &session->handed;
     t->expected = UNKNOWN;
     make_slices(t, call);
-    for (int i = NUMBERS; i <= NEWEST; i++)
+    for (int i = 0; i < t->slices; i++)
         t->slice[i].after = memory(t->slice[i].length * t->slice[i].element);
     return call;
 }
@@ -172,7 +172,7 @@ void take_step(struct session *session, const struct call *call, const struct tr
         damage_memory(session);
 }
 
-/* ---- The law ---- */
+/* ---- Several memories ---- */
 
 static const char *const memory_names[MEMORIES] = { "the session", "other unused numbers", "the re-exposed frames" };
 
@@ -247,6 +247,32 @@ static bool run_differs(const struct trial *t, int m, const struct run *one, con
     return false;
 }
 
+static void keep_run(struct session *session, int m, const struct trial *t, struct run *run)
+{
+    for (int i = 0; m == OWN && i < t->slices; i++)
+        memcpy(t->slice[i].after, run->slice[i].at, t->slice[i].length * t->slice[i].element);
+    take_memory(session, m, run->slice[NUMBERS].at, run->slice[NUMBERS].length, run->slice[NEWEST].at, run->slice[NEWEST].length);
+    for (int i = 0; i < t->slices; i++)
+        free(run->slice[i].at);
+}
+
+struct comparison compare_memories(struct session *session, const struct call *call, const struct trial *t)
+{
+    struct comparison result = { 0 };
+    struct run runs[MEMORIES];
+    int memories = session->re_exposed ? MEMORIES : EXPOSED_TWIN;
+    for (int m = 0; m < memories; m++)
+        runs[m] = run_on(session, m, call, t);
+    for (int m = TWIN; m < memories && !result.differs; m++)
+        result.differs = run_differs(t, m, &runs[OWN], &runs[m], &result);
+    result.answer = runs[OWN].answer;
+    for (int m = 0; m < memories; m++)
+        keep_run(session, m, t, &runs[m]);
+    return result;
+}
+
+/* ---- The series call ---- */
+
 /* What mtb_series tells of the frames held, at least one. */
 static uint32_t series_of(const struct session *session, int32_t offsets[2 * MAX_FRAMES])
 {
@@ -271,52 +297,30 @@ static uint32_t series_of(const struct session *session, int32_t offsets[2 * MAX
     return number;
 }
 
-/* Whether the offsets were not told though nothing is wrong, or are others than the series call's. */
-static bool breaks_law(const struct session *session, const struct trial *t, const struct run *run, struct comparison *result)
+static bool tells_otherwise(const struct session *session, const struct trial *t, struct comparison *result)
 {
-    enum { OFFSETS = 2, TOLD = 3 };
-    static const bool none[WANTS];
-    if (run->answer != 0) {
-        snprintf(result->mismatch, MISMATCH_ROOM, "refuses what its own calls have left, by %" PRIu32, run->answer);
-        return memcmp(t->want, none, sizeof none) == 0;
-    }
     int32_t offsets[2 * MAX_FRAMES];
-    uint32_t told = *(const uint32_t *)run->slice[TOLD].at;
+    uint32_t told = *(const uint32_t *)t->slice[TOLD].after;
     size_t bytes = 2 * (size_t)session->held * sizeof *offsets;
     result->bytes += bytes;
     if (told != session->held) {
         snprintf(result->mismatch, MISMATCH_ROOM, "tells of %" PRIu32 " frames, and %" PRIu32 " are held", told, session->held);
         return true;
     }
-    if (told == 0 || (series_of(session, offsets) == 0 && memcmp(run->slice[OFFSETS].at, offsets, bytes) == 0))
-        return false;
     snprintf(result->mismatch, MISMATCH_ROOM, "tells other offsets than mtb_series");
-    return true;
+    return told > 0 && (series_of(session, offsets) != 0 || memcmp(t->slice[OFFSETS].after, offsets, bytes) != 0);
 }
 
-static void keep_run(struct session *session, int m, const struct trial *t, struct run *run)
+/* Though nothing is wrong. */
+static bool refuses(const struct trial *t, struct comparison *result)
 {
-    if (m == OWN)
-        for (int i = NUMBERS; i <= NEWEST; i++)
-            memcpy(t->slice[i].after, run->slice[i].at, t->slice[i].length * t->slice[i].element);
-    take_memory(session, m, run->slice[NUMBERS].at, run->slice[NUMBERS].length, run->slice[NEWEST].at, run->slice[NEWEST].length);
-    for (int i = 0; i < t->slices; i++)
-        free(run->slice[i].at);
+    static const bool none[WANTS];
+    snprintf(result->mismatch, MISMATCH_ROOM, "refuses what its own calls have left, by %" PRIu32, result->answer);
+    return memcmp(t->want, none, sizeof none) == 0;
 }
 
-struct comparison compare_law(struct session *session, const struct call *call, const struct trial *t)
+void compare_series(const struct session *session, const struct call *call, const struct trial *t, struct comparison *result)
 {
-    struct comparison result = { 0 };
-    struct run runs[MEMORIES];
-    int memories = session->re_exposed ? MEMORIES : EXPOSED_TWIN;
-    for (int m = 0; m < memories; m++)
-        runs[m] = run_on(session, m, call, t);
-    for (int m = TWIN; m < memories && !result.differs; m++)
-        result.differs = run_differs(t, m, &runs[OWN], &runs[m], &result);
-    result.answer = runs[OWN].answer;
-    if (!result.differs && call == live_call(LIVE_OFFSETS))
-        result.differs = breaks_law(session, t, &runs[OWN], &result);
-    for (int m = 0; m < memories; m++)
-        keep_run(session, m, t, &runs[m]);
-    return result;
+    if (!result->differs && session->sound && call == live_call(LIVE_OFFSETS))
+        result->differs = result->answer == 0 ? tells_otherwise(session, t, result) : refuses(t, result);
 }

@@ -35,7 +35,10 @@ const struct call *make_step(struct session *session, bool first, struct trial *
 /* Takes over what the call answered and left. */
 void take_step(struct session *session, const struct call *call, const struct trial *trial, uint32_t answer);
 
-/* Asks the library alone: all memories have to be answered alike, and what is told has to be what mtb_series tells. */
-struct comparison compare_law(struct session *session, const struct call *call, const struct trial *trial);
+/* Asks the library alone: all memories have to be answered alike. */
+struct comparison compare_memories(struct session *session, const struct call *call, const struct trial *trial);
+
+/* Whether what was told is what the library's mtb_series tells of the frames held; a session that is not sound need not. */
+void compare_series(const struct session *session, const struct call *call, const struct trial *trial, struct comparison *comparison);
 
 #endif
