@@ -276,12 +276,12 @@ static void try_families(const struct call *call)
             try(call, family, index);
 }
 
-/* Those that align last: they take the longest. */
+/* Those that align last: they take the longest. After them sessions, so that a wrong mtb_series is found by its own trials. */
 static void try_chosen(void)
 {
     for (int last = 0; last < 2; last++)
         for (int i = 0; i < call_count; i++)
-            if (chosen(&calls[i]) && aligns(&calls[i]) == last)
+            if (chosen(&calls[i]) && (aligns(&calls[i]) || has_sessions(&calls[i])) == last)
                 try_families(&calls[i]);
 }
 
