@@ -238,9 +238,7 @@ static void try_session(void)
     for (int step = 0; step < session.calls && !differs; step++) {
         struct trial trial;
         now.call = make_step(&session, step == 0, &trial);
-        bool alone = now.family == LAW;
-        struct comparison comparison = alone ? compare_memories(&session, now.call, &trial) : compare(now.call, &trial);
-        compare_series(&session, now.call, &trial, &comparison);
+        struct comparison comparison = session.alone ? compare_alone(&session, now.call, &trial) : compare(now.call, &trial);
         count(&trial, &comparison);
         take_step(&session, now.call, &trial, comparison.answer);
         free_trial(&trial);
@@ -276,12 +274,12 @@ static void try_families(const struct call *call)
             try(call, family, index);
 }
 
-/* Those that align last: they take the longest. After them sessions, so that a wrong mtb_series is found by its own trials. */
+/* Those that align last: they take the longest. */
 static void try_chosen(void)
 {
     for (int last = 0; last < 2; last++)
         for (int i = 0; i < call_count; i++)
-            if (chosen(&calls[i]) && (aligns(&calls[i]) || has_sessions(&calls[i])) == last)
+            if (chosen(&calls[i]) && aligns(&calls[i]) == last)
                 try_families(&calls[i]);
 }
 

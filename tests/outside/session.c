@@ -40,13 +40,13 @@ static void choose_shape(const struct session *session, struct numbers *n)
     n->s = random_below(most + 1);
 }
 
-void begin_session(struct session *session, bool lawful)
+void begin_session(struct session *session, bool alone)
 {
     uint32_t w = LEAST_SIDE + random_below(MORE_SIDE), h = LEAST_SIDE + random_below(MORE_SIDE);
     memset(session, 0, sizeof *session);
     session->calls = LEAST_CALLS + (int)random_below(MORE_CALLS);
-    session->lawful = lawful;
-    session->re_exposed = lawful && random_below(2);
+    session->alone = alone;
+    session->re_exposed = alone && random_below(2);
     session->area = (size_t)w * h;
     session->rasters = make_rasters(w, h, FRAMES);
     if (session->re_exposed)
@@ -79,7 +79,7 @@ static enum live choose_call(void)
 
 const struct call *make_step(struct session *session, bool first, struct trial *t)
 {
-    bool starts = first && (session->lawful || random_below(4));
+    bool starts = first && random_below(4);
     enum live which = starts ? LIVE_START : choose_call();
     const struct call *call = live_call(which);
     memset(t, 0, sizeof *t);
@@ -168,7 +168,7 @@ void take_step(struct session *session, const struct call *call, const struct tr
         take_accepted(session, call, t);
     if (session->sound && random_below(3) == 0)
         scribble_free(session);
-    if (session->sound && !session->lawful && random_below(24) == 0)
+    if (session->sound && random_below(24) == 0)
         damage_memory(session);
 }
 
@@ -256,21 +256,6 @@ static void keep_run(struct session *session, int m, const struct trial *t, stru
         free(run->slice[i].at);
 }
 
-struct comparison compare_memories(struct session *session, const struct call *call, const struct trial *t)
-{
-    struct comparison result = { 0 };
-    struct run runs[MEMORIES];
-    int memories = session->re_exposed ? MEMORIES : EXPOSED_TWIN;
-    for (int m = 0; m < memories; m++)
-        runs[m] = run_on(session, m, call, t);
-    for (int m = TWIN; m < memories && !result.differs; m++)
-        result.differs = run_differs(t, m, &runs[OWN], &runs[m], &result);
-    result.answer = runs[OWN].answer;
-    for (int m = 0; m < memories; m++)
-        keep_run(session, m, t, &runs[m]);
-    return result;
-}
-
 /* ---- The series call ---- */
 
 /* What mtb_series tells of the frames held, at least one. */
@@ -319,8 +304,30 @@ static bool refuses(const struct trial *t, struct comparison *result)
     return memcmp(t->want, none, sizeof none) == 0;
 }
 
-void compare_series(const struct session *session, const struct call *call, const struct trial *t, struct comparison *result)
+/* ---- The library alone ---- */
+
+/* How many memories agree in what is used, so that they have to be answered alike: after damage there is but one, until a start, which
+ * reads none. */
+static int memories_alike(const struct session *session, const struct call *call)
 {
-    if (!result->differs && session->sound && call == live_call(LIVE_OFFSETS))
-        result->differs = result->answer == 0 ? tells_otherwise(session, t, result) : refuses(t, result);
+    if (!session->sound && call != live_call(LIVE_START))
+        return 1;
+    return session->re_exposed ? MEMORIES : EXPOSED_TWIN;
+}
+
+struct comparison compare_alone(struct session *session, const struct call *call, const struct trial *t)
+{
+    struct comparison result = { 0 };
+    struct run runs[MEMORIES];
+    int memories = memories_alike(session, call);
+    for (int m = 0; m < memories; m++)
+        runs[m] = run_on(session, m, call, t);
+    for (int m = TWIN; m < memories && !result.differs; m++)
+        result.differs = run_differs(t, m, &runs[OWN], &runs[m], &result);
+    result.answer = runs[OWN].answer;
+    for (int m = 0; m < memories; m++)
+        keep_run(session, m, t, &runs[m]);
+    if (!result.differs && session->sound && call == live_call(LIVE_OFFSETS))
+        result.differs = result.answer == 0 ? tells_otherwise(session, t, &result) : refuses(t, &result);
+    return result;
 }

@@ -10,7 +10,7 @@ enum { OWN, TWIN, EXPOSED_TWIN, MEMORIES };
 
 struct session {
     int calls;              /* in the list */
-    bool lawful;            /* nothing but the calls writes its memory, but for what is unused */
+    bool alone;             /* the library alone is asked, on several memories */
     bool re_exposed;        /* the tolerance is 0, and the third memory is kept */
     size_t area;            /* pixels of a frame, whatever its shape */
     uint8_t *rasters, *exposed; /* the frames that come and go, one after another; the same re-exposed */
@@ -25,8 +25,7 @@ struct session {
     struct held handed;
 };
 
-/* Begins one. A lawful one starts first, and its memory is never damaged. */
-void begin_session(struct session *session, bool lawful);
+void begin_session(struct session *session, bool alone);
 void end_session(struct session *session);
 
 /* Makes the next call as a trial, and tells which. */
@@ -35,10 +34,8 @@ const struct call *make_step(struct session *session, bool first, struct trial *
 /* Takes over what the call answered and left. */
 void take_step(struct session *session, const struct call *call, const struct trial *trial, uint32_t answer);
 
-/* Asks the library alone: all memories have to be answered alike. */
-struct comparison compare_memories(struct session *session, const struct call *call, const struct trial *trial);
-
-/* Whether what was told is what the library's mtb_series tells of the frames held; a session that is not sound need not. */
-void compare_series(const struct session *session, const struct call *call, const struct trial *trial, struct comparison *comparison);
+/* Asks the library alone: as long as the session is sound, all memories have to be answered alike, and what is told has to be what
+ * the library's mtb_series tells of the frames held. */
+struct comparison compare_alone(struct session *session, const struct call *call, const struct trial *trial);
 
 #endif
