@@ -77,24 +77,27 @@ static enum live choose_call(void)
     return random_below(24) ? often[random_below(9)] : LIVE_START;
 }
 
+/* What a start tells; the memory is as long as ever. */
+static void choose_start(const struct session *session, struct trial *t)
+{
+    choose_shape(session, &t->told);
+    choose_settings(session, &t->told);
+    t->made_for = t->told;
+    spoil_numbers(t, live_call(LIVE_START));
+    t->made_for.w = session->settings.w;
+    t->made_for.h = session->settings.h;
+}
+
 const struct call *make_step(struct session *session, bool first, struct trial *t)
 {
     bool starts = first && random_below(4);
-    enum live which = starts ? LIVE_START : choose_call();
-    const struct call *call = live_call(which);
+    const struct call *call = live_call(starts ? LIVE_START : choose_call());
     memset(t, 0, sizeof *t);
-    t->told = session->settings;
-    if (which == LIVE_START) {
-        choose_shape(session, &t->told);
-        choose_settings(session, &t->told);
-    }
-    t->made_for = t->told;
+    t->told = t->made_for = session->settings;
     if (!starts && random_below(5) == 0)
         want_refusals(t, call);
-    if (which == LIVE_START)
-        spoil_numbers(t, call);
-    t->made_for.w = session->settings.w; /* the memory is as long as ever, whatever is told */
-    t->made_for.h = session->settings.h;
+    if (call == live_call(LIVE_START))
+        choose_start(session, t);
     session->next = random_below(FRAMES);
     session->handed = (struct held){ session->memory[OWN].numbers, session->memory[OWN].newest,
                                      session->rasters + session->next * raster_bytes(session) };
@@ -182,29 +185,28 @@ struct run {
     struct lent slice[MAX_SLICES];
 };
 
-/* The bytes of a slice that this memory has otherwise; `bytes` is their number. */
-static const void *other_contents(const struct session *session, int m, int i, size_t *bytes)
+/* Puts so many bytes into a slice, or as many as it has. */
+static void overlay(const struct trial *t, int i, struct run *run, const void *contents, size_t bytes)
 {
-    const void *const contents[] = { session->memory[m].numbers, session->memory[m].newest,
-                                     session->exposed ? session->exposed + session->next * raster_bytes(session) : NULL };
-    const size_t sizes[] = { sizeof session->memory[m].numbers, session->area, raster_bytes(session) };
-    *bytes = sizes[i];
-    return contents[i];
+    size_t told = t->slice[i].length * t->slice[i].element;
+    memcpy(run->slice[i].at, contents, bytes < told ? bytes : told);
 }
 
+/* What the session's own memory is lent, but for what another has otherwise. */
 static struct run run_on(const struct session *session, int m, const struct call *call, const struct trial *t)
 {
     struct run run = { 0 };
     for (int i = 0; i < t->slices; i++) {
-        size_t told = t->slice[i].length * t->slice[i].element, bytes;
+        size_t told = t->slice[i].length * t->slice[i].element;
         run.slice[i] = (struct lent){ memory(told), t->slice[i].length };
         memcpy(run.slice[i].at, t->slice[i].before, told);
-        bool own = m == OWN || i > RASTER || (i == RASTER && (m != EXPOSED_TWIN || call != live_call(LIVE_ADD)));
-        if (!own) {
-            const void *contents = other_contents(session, m, i, &bytes);
-            memcpy(run.slice[i].at, contents, bytes < told ? bytes : told);
-        }
     }
+    if (m != OWN) {
+        overlay(t, NUMBERS, &run, session->memory[m].numbers, sizeof session->memory[m].numbers);
+        overlay(t, NEWEST, &run, session->memory[m].newest, session->area);
+    }
+    if (m == EXPOSED_TWIN && call == live_call(LIVE_ADD))
+        overlay(t, RASTER, &run, session->exposed + session->next * raster_bytes(session), raster_bytes(session));
     run.answer = call->ask(&library, &t->told, run.slice);
     return run;
 }
