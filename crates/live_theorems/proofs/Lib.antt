@@ -10,4 +10,5 @@ pub mod RunLaws
 pub mod LawProof
 pub mod UnreadLaws
 pub mod ReexposedLaws
+pub mod CalledLaws
 pub mod ExampleSessions

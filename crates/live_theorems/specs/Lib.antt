@@ -4,4 +4,5 @@ pub mod Sessions
 pub mod LiveLaw
 pub mod UsedMemory
 pub mod ReexposedSessions
+pub mod CalledLists
 pub mod LiveExamples
