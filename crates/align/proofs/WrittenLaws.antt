@@ -6,26 +6,36 @@ use Prim.Native.Nat.{ℕ, _+_, _*_, _-_, _≤_, _<_}
 use native.Mathlib.Omega.{arith}
 use lib.ListN.{length, getD, drop, length-append, length-drop, List·getD-append}
 use lib.Seq.{getD-append-add, getD-drop, ext-getD}
-use Rattle.rules.specs.Frames.{frameOf, writtenOver, SameFrame}
+use Rattle.rules.specs.Frames.{Frame, frameOf, writtenOver, SameFrame}
 use Rattle.rules.specs.Greys.{greyFrame}
-use Rattle.rules.specs.Buffers.{RowAt}
+use Rattle.rules.specs.Buffers.{RowAt, FrameAt}
 use Rattle.rules.proofs.SumLaws.{order}
-use Rattle.rules.proofs.FrameLaws.{pixel-fits}
+use Rattle.rules.proofs.FrameLaws.{pixel-fits, flat-frame}
 use Rattle.grey.specs.GreyPlaces.{greyAt}
 
--- a raster converted from place `to` on stands there as its grey frame
+-- A frame written into the memory stands there, also after another one is written behind it.
+pub stands : (to w h : ℕ) (f : Frame) (before after : List ℕ) → FrameAt to w f before h after → SameFrame w h (frameOf w (drop to after)) f
+unfolding frameOf
+stands to w h f before after r x y k l = getD-drop to after (y * w + x) 0 ∙ r .done x y k l
+
+pub stays : (to w h : ℕ) (f g : Frame) (before mid after : List ℕ) → FrameAt 0 w f before h mid → w * h ≤ to → FrameAt to w g mid h after
+    → SameFrame w h (frameOf w (drop 0 after)) f
+unfolding frameOf
+stays to w h f g before mid after r room later x y k l =
+    later .under (y * w + x) (let p = pixel-fits w h x y k l in omega arith) ∙ stands 0 w h f before mid r x y k l
+
+-- so does a raster converted from place `to` on, as its grey frame
 pub converted : (w h to : ℕ) (raster before after : List ℕ) → RowAt to (greyAt raster) before (w * h) after
     → SameFrame w h (frameOf w (drop to after)) (greyFrame w raster)
-unfolding frameOf greyFrame greyAt
-converted w h to raster before after r x y k l = getD-drop to after (y * w + x) 0 ∙ r .done (y * w + x) (pixel-fits w h x y k l)
+unfolding greyFrame greyAt
+converted w h to raster before after r = stands to w h (greyFrame w raster) before after (flat-frame to w h (greyAt raster) before after r)
 
--- a later conversion leaves the frame before it
 pub converted-kept : (w h to : ℕ) (f : ℕ → ℕ) (raster before mid after : List ℕ) → RowAt 0 (greyAt raster) before (w * h) mid
     → w * h ≤ to → RowAt to f mid (w * h) after → SameFrame w h (frameOf w (drop 0 after)) (greyFrame w raster)
-unfolding frameOf greyFrame greyAt
-converted-kept w h to f raster before mid after r room later x y k l =
-    later .under (y * w + x) (let p = pixel-fits w h x y k l in omega arith)
-    ∙ converted w h 0 raster before mid r x y k l
+unfolding greyFrame greyAt
+converted-kept w h to f raster before mid after r room later =
+    stays to w h (greyFrame w raster) (λ x y. f (y * w + x)) before mid after
+    (flat-frame 0 w h (greyAt raster) before mid r) room (flat-frame to w h f mid after later)
 
 -- a list written whole at the beginning of a lent one
 pub row-written : (l before after : List ℕ) (n : ℕ) → length l ≡ n → n ≤ length before → RowAt 0 (λ i. getD l i 0) before n after

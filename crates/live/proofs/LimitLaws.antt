@@ -21,7 +21,7 @@ use Rattle.rules.proofs.AlignmentLaws.{shape-ok}
 use Rattle.live.specs.declared.Bracket.{Bracket}
 use Rattle.live.specs.Held.{heldLength, bracketOf, heldPair, pairsIn}
 use Rattle.live.specs.HeldOk.{BracketOk, AddOk, DropOk, TellOk}
-use Rattle.live.specs.Steps.{someFar, badBracket, badHeld, emptyOf, startNumber, addNumber, dropNumber, tellNumber}
+use Rattle.live.specs.Steps.{someFar, badBracket, badHeld, emptyOf, holding, startNumber, addNumber, dropNumber, tellNumber}
 
 -- a bracket that none of the tests finds bad
 pub record NoneBad (B : Bracket) : Type 0 where
@@ -65,6 +65,10 @@ limits-ok B n =
 
 pub bracket-ok : (B : Bracket) → badBracket B ≡ false → BracketOk B
 bracket-ok B e = limits-ok B (none-bad B e)
+
+-- the same bracket with another number of frames
+pub holding-ok : (B : Bracket) (n : ℕ) → n ≤ maxFrames → BracketOk B → BracketOk (holding B n)
+holding-ok B n few ok = record { shape = ok .shape; tolerance = ok .tolerance; percentile = ok .percentile; frames = few }
 
 pub far-no : (bound : ℕ) (d : ℕ → Offset) (n : ℕ) → someFar bound d n ≡ false → (k : ℕ) → k < n → Near bound (d k)
 unfolding someFar

@@ -7,7 +7,6 @@ use native.Mathlib.Omega.{arith}
 use lib.IntN.{ℤ}
 use lib.ListN.{length}
 use Rattle.rules.specs.declared.Offset.{Offset}
-use Rattle.rules.specs.Limits.{maxFrames}
 use Rattle.rules.specs.Frames.{frameOf, rows}
 use Rattle.rules.specs.Greys.{greyFrame}
 use Rattle.rules.specs.Levels.{alignedBy}
@@ -26,9 +25,6 @@ module _ (numbers : List ℤ) (B : Bracket) (read : B ≡ bracketOf numbers) whe
 
   pub accepted-read : (bad : Bool) (held newest raster grey words : ℕ) → AddOk bad (bracketOf numbers) held newest raster grey words → AddOk bad B held newest raster grey words
   accepted-read bad held newest raster grey words ok = rw read ok
-
-  pub more-ok : (n : ℕ) → n ≤ maxFrames → BracketOk (bracketOf numbers) → BracketOk (holding B n)
-  more-ok n few ok = let k = limits-read ok in record { shape = k .shape; tolerance = k .tolerance; percentile = k .percentile; frames = few }
 
   -- the memory, whatever order the nine are in
   module _ (order : List Offset) (newest raster : List ℕ) (numbers′ : List ℤ) (newest′ : List ℕ) where

@@ -4,7 +4,6 @@ use mathlib.Core.List.{List, []}
 use Prim.Native.Nat.{ℕ, _+_, _-_, _≤_, _<_}
 use native.Mathlib.Omega.{arith}
 use lib.IntN.{ℤ}
-use Rattle.rules.specs.Limits.{maxFrames}
 use Rattle.live.specs.declared.Bracket.{Bracket}
 use Rattle.live.specs.Held.{memoryOf, bracketOf, heldPair, layout}
 use Rattle.live.specs.HeldOk.{BracketOk}
@@ -18,9 +17,6 @@ module _ (numbers : List ℤ) (B : Bracket) (read : B ≡ bracketOf numbers) whe
 
   pub limits-read : BracketOk (bracketOf numbers) → BracketOk B
   limits-read ok = rw read ok
-
-  pub left-ok : (n : ℕ) → n ≤ maxFrames → BracketOk (bracketOf numbers) → BracketOk (holding B n)
-  left-ok n few ok = let k = limits-read ok in record { shape = k .shape; tolerance = k .tolerance; percentile = k .percentile; frames = few }
 
   pub shrunk-is : (n : ℕ) (moved after : List ℤ) → n ≡ B .frames - 1 - 1 → PairDropped n numbers moved
       → after ≡ layout (holding B (B .frames - 1)) (heldPair moved) → after ≡ shrunk (memoryOf numbers []) .numbers

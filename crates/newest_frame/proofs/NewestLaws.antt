@@ -4,17 +4,17 @@ use mathlib.Core.List.{List, [], _++_, append-nil}
 use Prim.Native.Nat.{ℕ, _+_, _*_, _≤_}
 use native.Mathlib.Omega.{arith}
 use lib.ListN.{length, getD, drop, drop-of-length-le}
-use lib.Seq.{getD-drop}
 use Rattle.rules.specs.declared.Offset.{Offset}
 use Rattle.rules.specs.declared.Setup.{Setup}
-use Rattle.rules.specs.Frames.{frameOf, SameFrame, rows}
+use Rattle.rules.specs.Frames.{frameOf, rows}
 use Rattle.rules.specs.Greys.{greyFrame}
-use Rattle.rules.specs.Buffers.{RowAt}
+use Rattle.rules.specs.Buffers.{RowAt, FrameAt}
 use Rattle.rules.specs.Levels.{ruleOf, Aligned}
-use Rattle.rules.proofs.FrameLaws.{pixel-fits, length-rows, getD-rows, frame-written, flat-frame}
+use Rattle.rules.proofs.FrameLaws.{length-rows, getD-rows, frame-written, flat-frame}
 use Rattle.rules.proofs.PairLaws.{pair-ext}
 use Rattle.grey.specs.GreyPlaces.{greyAt, numberAt}
 use Rattle.align.specs.Aligns.{Frames, Aligns}
+use Rattle.align.proofs.WrittenLaws.{stands, stays}
 use Rattle.newest_frame.specs.NewestFrames.{NewestOk, Replaced, FramesPut, NewestAligned}
 
 -- the newest grey once a raster is converted into it
@@ -31,32 +31,26 @@ replaced w h raster newest newest′ size r =
     nothing : drop (length (rows w h (greyFrame w raster))) newest ≡ []
     nothing = drop-of-length-le newest long
 
--- a frame copied to place `to` on stands there
-copied : (w h to : ℕ) (l before after : List ℕ) → length l ≡ w * h → RowAt to (numberAt l) before (length l) after → SameFrame w h (frameOf w (drop to after)) (frameOf w l)
-unfolding frameOf numberAt
-copied w h to l before after size r x y k m = getD-drop to after (y * w + x) 0 ∙ r .done (y * w + x) (let p = pixel-fits w h x y k m in omega arith)
-
--- and stays where another one is copied behind it
-kept : (w h to : ℕ) (l l′ before mid after : List ℕ) → length l ≡ w * h → w * h ≤ to → RowAt 0 (numberAt l) before (length l) mid → RowAt to (numberAt l′) mid (length l′) after
-    → SameFrame w h (frameOf w (drop 0 after)) (frameOf w l)
-unfolding frameOf
-kept w h to l l′ before mid after size room r later x y k m =
-    later .under (y * w + x) (let p = pixel-fits w h x y k m in omega arith) ∙ copied w h 0 l before mid size r x y k m
-
 -- All that the three steps leave.
 pub frames-put : (w h : ℕ) (newest newest′ raster grey mid grey′ : List ℕ) → length newest ≡ w * h → Replaced w h raster newest′
     → RowAt 0 (numberAt newest) grey (length newest) mid → RowAt (w * h) (numberAt newest′) mid (length newest′) grey′
     → FramesPut w h newest newest′ raster (length grey) grey′
-unfolding frameOf
+unfolding frameOf numberAt
 frames-put w h newest newest′ raster grey mid grey′ size new one two = record {
   len = two .len ∙ one .len;
-  first = kept w h (w * h) newest newest′ grey mid grey′ size (omega arith) one two;
+  first = stays (w * h) w h (frameOf w newest) (frameOf w newest′) grey mid grey′ front (omega arith) behind;
   second = λ x y k m.
-      copied w h (w * h) newest′ mid grey′ (ap length new ∙ length-rows w h (greyFrame w raster)) two x y k m
+      stands (w * h) w h (frameOf w newest′) mid grey′ behind x y k m
       ∙ ap (λ (l : List ℕ). getD l (y * w + x) 0) new
       ∙ getD-rows w h (greyFrame w raster) x y k m;
   replaced = new;
 }
+  where
+    front : FrameAt 0 w (frameOf w newest) grey h mid
+    front = flat-frame 0 w h (numberAt newest) grey mid (rw size at one)
+
+    behind : FrameAt (w * h) w (frameOf w newest′) mid h grey′
+    behind = flat-frame (w * h) w h (numberAt newest′) mid grey′ (rw (ap length new ∙ length-rows w h (greyFrame w raster)) at two)
 
 -- what the recursion needs
 pub newest-frames : (S : Setup) (newest raster grey words : ℕ) → NewestOk S newest raster grey words → Frames 0 (S .w * S .h) S grey

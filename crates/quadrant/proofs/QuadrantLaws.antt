@@ -5,15 +5,14 @@ use Prim.Native.Nat.{ℕ, _+_, _*_, _/_, _≤_}
 use native.Mathlib.Nat.{le-refl, mul-comm, mul-le-mul-right}
 use native.Mathlib.Omega.{arith}
 use lib.ListN.{drop}
-use lib.Seq.{getD-drop}
 use Rattle.rules.specs.declared.Offset.{Offset}
 use Rattle.rules.specs.declared.Setup.{Setup}
 use Rattle.rules.specs.Frames.{Frame, frameOf, SameFrame}
 use Rattle.rules.specs.Greys.{greyFrame}
 use Rattle.rules.specs.Buffers.{FrameAt}
 use Rattle.rules.specs.Accepted.{SizeOk}
-use Rattle.rules.proofs.FrameLaws.{pixel-fits}
 use Rattle.align.specs.Aligns.{Aligns}
+use Rattle.align.proofs.WrittenLaws.{stands, stays}
 use Rattle.pair_in_order.proofs.PairCallLaws.{pair-offset}
 use Rattle.crop.specs.declared.Crop.{Crop}
 use Rattle.crop.specs.declared.Quadrant.{Quadrant}
@@ -33,17 +32,6 @@ quadrant-within w h bytes q size exact =
       columns = p .0;
       lines = let m = mul-le-mul-right {m = C .top + C .h} {n = h} w (p .1) in let n = mul-comm w h in omega arith;
     }
-
--- A frame written into the memory stands there, also after another one is written behind it.
-stands : (to w h : ℕ) (f : Frame) (before after : List ℕ) → FrameAt to w f before h after → SameFrame w h (frameOf w (drop to after)) f
-unfolding frameOf
-stands to w h f before after r x y k l = getD-drop to after (y * w + x) 0 ∙ r .done x y k l
-
-stays : (to w h : ℕ) (f g : Frame) (before mid after : List ℕ) → FrameAt 0 w f before h mid → w * h ≤ to → FrameAt to w g mid h after
-    → SameFrame w h (frameOf w (drop 0 after)) f
-unfolding frameOf
-stays to w h f g before mid after r room later x y k l =
-    later .under (y * w + x) (let p = pixel-fits w h x y k l in omega arith) ∙ stands 0 w h f before mid r x y k l
 
 -- What is known of a crop that is a quadrant's.
 module _ (w h : ℕ) (q : Quadrant) (C : Crop) (e : C ≡ quadrantCrop w h q) where

@@ -12,9 +12,10 @@ use Rattle.rules.specs.Levels.{leastMoveOrder}
 use Prim.Native.Nat.{ℕ, _≤_, _<_}
 use Rattle.live.specs.declared.Bracket.{Bracket}
 use Rattle.live.specs.HeldOk.{BracketOk, AddOk}
-use Rattle.live.specs.Steps.{holding, setupIn}
+use Rattle.live.specs.Steps.{setupIn}
 use Rattle.newest_frame.specs.NewestFrames.{NewestAligned}
-use Rattle.live_add.proofs.GrowLaws.{limits-read, accepted-read, more-ok, grown-first, grown-next}
+use Rattle.live.proofs.LimitLaws.{holding-ok}
+use Rattle.live_add.proofs.GrowLaws.{limits-read, accepted-read, grown-first, grown-next}
 use Rattle.live_add.proofs.grow.Statement.{statement}
 use Rattle.live_add.proofs.grow.Tie as tie
 
@@ -41,9 +42,6 @@ module _ (c : tie.After-bracket-of) where
   room : B .frames < maxFrames
   room = accepted .place (limits .frames)
 
-  more : (n : ℕ) → n ≤ maxFrames → BracketOk (holding B n)
-  more n few = more-ok numbers B (c .bracket-of .ensures) n few (start .pre .0)
-
 add-put-pair : tie.Need-add-put-pair
 add-put-pair c = let k = limits c .frames in omega arith
 
@@ -56,7 +54,7 @@ put-bracket-requires : tie.Need-put-bracket-requires
 put-bracket-requires c κs =
     let b = c .before .before .before .before .before .before in
     let few = room b in
-    (accepted b .exact1, more b _ (omega arith))
+    (accepted b .exact1, holding-ok (B b) _ (omega arith) (limits b))
 
 same-length : tie.Need-same-length
 same-length c = search needs
@@ -108,7 +106,7 @@ put-bracket-requires-2 c κs =
     let size = c .before .before .put-pair .ensures .len in
     let k = accepted b .exact1 in
     let few = room b in
-    (omega arith, more b _ (omega arith))
+    (omega arith, holding-ok (B b) _ (omega arith) (limits b))
 
 same-length-3 : tie.Need-same-length-3
 same-length-3 c = search needs

@@ -1,7 +1,8 @@
 -- The pairs after the oldest one are moved, and the bracket is written with a frame less.
 use native.Mathlib.Omega.{arith}
 use borrow.Author.Needs.{needs}
-use Rattle.live_drop.proofs.ShrinkLaws.{frames-read, limits-read, left-ok, shrunk-is}
+use Rattle.live.proofs.LimitLaws.{holding-ok}
+use Rattle.live_drop.proofs.ShrinkLaws.{frames-read, limits-read, shrunk-is}
 use Rattle.live_drop.proofs.shrink.Statement.{statement}
 use Rattle.live_drop.proofs.shrink.Tie as tie
 
@@ -37,8 +38,8 @@ put-bracket-requires c κs =
     let b = d .before .before .before in
     let a = b .before .before in
     let size = d .drop-pair .ensures .len in
-    let few = limits-read (a .args .held .now) (b .bracket-of .result) (b .bracket-of .ensures) (a .pre .1 .0) .frames in
-    (omega arith, left-ok (a .args .held .now) (b .bracket-of .result) (b .bracket-of .ensures) _ (omega arith) (a .pre .1 .0))
+    let ok = limits-read (a .args .held .now) (b .bracket-of .result) (b .bracket-of .ensures) (a .pre .1 .0) in
+    (omega arith, holding-ok (b .bracket-of .result) _ (omega (arith, ok .frames)) ok)
 
 same-length : tie.Need-same-length
 same-length c = search needs
