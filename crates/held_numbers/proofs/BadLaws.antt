@@ -1,12 +1,12 @@
 -- Laws of a bracket's limits: tests one after another make up the test of all.
-use mathlib.Core.Path.{_≡_, refl, sym, ap, _∙_}
+use mathlib.Core.Path.{_≡_, refl, sym, _∙_}
 use mathlib.Core.Bool.{Bool, true, false, _||_}
 use mathlib.Core.List.{List}
 use Prim.Native.Nat.{ℕ, suc, _*_, _-_, _%_, _^_, _≤_}
 use native.Mathlib.Nat.{mul-comm, pow-suc}
 use native.Mathlib.Omega.{arith}
 use lib.IntN.{ℤ}
-use lib.Pow.{shl-exact, pow-mono, pow-pos}
+use lib.Pow.{shl-exact, pow-mono}
 use Rattle.rules.specs.Limits.{maxHalvings, maxOffset}
 use Rattle.rules.specs.Refusals.{_when_, _orElse_, badSize, badHalvings, tooSmall, shapeRefusal}
 use Rattle.live.specs.declared.Bracket.{Bracket}

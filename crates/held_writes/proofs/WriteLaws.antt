@@ -1,6 +1,6 @@
 -- Laws of held numbers written one after another, and of what they then read as.
 use mathlib.Core.Path.{_≡_, refl, sym, ap, _∙_}
-use mathlib.Core.Bool.{Bool, true, false, cond}
+use mathlib.Core.Bool.{cond}
 use mathlib.Core.Logic.{⊎-elim}
 use mathlib.Core.List.{List, [], _∷_, _++_, append-nil}
 use Prim.Native.Nat.{ℕ, _+_, _*_, _-_, _≤_, _<_}
@@ -22,7 +22,7 @@ use Rattle.offsets.specs.PairOffsets.{pairOffset, withOffset}
 use Rattle.live.specs.declared.Bracket.{Bracket}
 use Rattle.live.specs.Held.{heldLength, pairPlace, heldPair, pairsIn, layout}
 use Rattle.live.specs.Steps.{extended}
-use Rattle.live.proofs.HeldLaws.{Reads, layout-is, pair-same}
+use Rattle.live.proofs.HeldLaws.{layout-is, pair-same}
 use Rattle.held_writes.specs.HeldWrites.{firstNumbers, ZeroFrom, PairPut, PairDropped}
 
 -- A store at place i, read at any place.

@@ -1,17 +1,16 @@
 -- What a refused call leaves by its step, and an accepted one.
-use mathlib.Core.Path.{_≡_, refl, sym, ap, _∙_}
+use mathlib.Core.Path.{_≡_, refl, sym, _∙_}
 use mathlib.Core.List.{List, []}
 use Prim.Native.Nat.{ℕ, zero, suc}
-use native.Mathlib.Omega.{arith}
 use lib.IntN.{ℤ}
 use Rattle.rules.specs.declared.Offset.{Offset}
 use Rattle.rules.specs.declared.Written.{Written}
-use Rattle.rules.specs.Answers.{written, bufferAfter}
+use Rattle.rules.specs.Answers.{written}
 use Rattle.rules.specs.Frames.{writtenOver}
 use Rattle.live.specs.declared.Told.{Told}
 use Rattle.live.specs.Held.{Memory, memoryOf}
-use Rattle.live.specs.Steps.{Call, Step, numberOf, made, framesIn, offsetsIn, ifAccepted, step}
-use Rattle.live.specs.LiveCalls.{Leaves, LeavesWork, told, Tells}
+use Rattle.live.specs.Steps.{Call, numberOf, made, framesIn, offsetsIn, ifAccepted, step}
+use Rattle.live.specs.LiveCalls.{Leaves, LeavesWork, Tells}
 
 refusal : (n : ℕ) → (n ≡ 0 → ⊥) → Written.Refused n ≡ written n
 refusal zero l = absurd (l refl)

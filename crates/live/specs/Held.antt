@@ -1,6 +1,6 @@
 -- The memory of a live bracket (document 02, Paper 7): "36 signed 32-bit numbers (w, h, s, T, percentile, frames held, then each pair's dx and dy, oldest first,
 -- unused ones written 0 …) and the newest frame's grey, w·h bytes". Only this file knows the places.
-use mathlib.Core.List.{List, [], _∷_, _++_}
+use mathlib.Core.List.{List, _∷_, _++_}
 use Prim.Native.Nat.{ℕ, _*_, _-_}
 use lib.IntN.{ℤ, pos, negsuc}
 use lib.ListN.{getD, drop, replicate}

@@ -1,6 +1,6 @@
 -- The four calls of the live bracket as steps (document 02, Paper 7): what each answers and what the memory holds when it returns, from the memory and the inputs
 -- when it began. It "adds a frame at its end, drops its oldest, and tells the offsets, always against its oldest".
-use mathlib.Core.Bool.{Bool, true, false, cond, _||_}
+use mathlib.Core.Bool.{Bool, false, cond, _||_}
 use mathlib.Core.List.{List, []}
 use Prim.Native.Nat.{ℕ, zero, suc, _+_, _*_, _-_, _^_}
 use lib.Dec.{ltb, eqb}

@@ -2,16 +2,14 @@
 use mathlib.Core.Path.{_≡_, ap, _∙_}
 use mathlib.Core.Bool.{Bool}
 use mathlib.Core.List.{List}
-use Prim.Native.Nat.{ℕ, _+_, _-_, _≤_, _<_}
+use Prim.Native.Nat.{ℕ, _+_, _-_}
 use native.Mathlib.Omega.{arith}
 use lib.IntN.{ℤ}
-use lib.ListN.{length}
 use Rattle.rules.specs.declared.Offset.{Offset}
-use Rattle.rules.specs.Frames.{frameOf, rows}
+use Rattle.rules.specs.Frames.{rows}
 use Rattle.rules.specs.Greys.{greyFrame}
-use Rattle.rules.specs.Levels.{alignedBy}
 use Rattle.live.specs.declared.Bracket.{Bracket}
-use Rattle.live.specs.Held.{Memory, memoryOf, bracketOf, heldPair, pairsIn, layout}
+use Rattle.live.specs.Held.{memoryOf, bracketOf, heldPair, pairsIn, layout}
 use Rattle.live.specs.HeldOk.{BracketOk, AddOk}
 use Rattle.live.specs.Steps.{holding, setupIn, newPair, extended, grown}
 use Rattle.live.proofs.HeldLaws.{layout-ext}

@@ -1,6 +1,6 @@
 -- What an accepted tell knows of the held numbers, and the offsets that it writes.
-use mathlib.Core.Path.{_≡_, refl, sym, ap, _∙_}
-use mathlib.Core.List.{List, []}
+use mathlib.Core.Path.{_≡_, ap, _∙_}
+use mathlib.Core.List.{List}
 use Prim.Native.Nat.{ℕ, _+_, _*_, _-_, _≤_, _<_}
 use native.Mathlib.Omega.{arith}
 use lib.IntN.{ℤ, pos}
@@ -12,7 +12,7 @@ use Rattle.rules.specs.Series.{frameOffset, offsetList}
 use Rattle.rules.proofs.SeriesLaws.{frame-list-ext}
 use Rattle.offsets.specs.PairOffsets.{pairOffset, SmallPairs}
 use Rattle.live.specs.declared.Bracket.{Bracket}
-use Rattle.live.specs.Held.{heldLength, pairPlace, bracketOf, heldPair}
+use Rattle.live.specs.Held.{pairPlace, bracketOf, heldPair}
 use Rattle.live.specs.HeldOk.{TellOk}
 use Rattle.live.specs.Steps.{badHeld, tellNumber, offsetsHeld}
 use Rattle.live.proofs.LimitLaws.{held-ok, near-511, tell-ok}

@@ -15,7 +15,7 @@ use Rattle.live.specs.Steps.{Call, Reply, numberOf, offsetsHeld, made, framesIn
 use Rattle.live.specs.LiveCalls.{told}
 use Rattle.live_theorems.specs.Runs.{slicesOf, afterCall, replies, afterAll}
 use Rattle.live_theorems.specs.Sessions.{opened, sessionAfter}
-use Rattle.live_theorems.specs.LiveLaw.{starting, Holds16}
+use Rattle.live_theorems.specs.LiveLaw.{starting, HoldsSession}
 use Rattle.live_theorems.specs.CalledLists.{writtenReply, toldReply, Called, putBack, CalledList, LawOfCalls, ReexposedCalls, CalledAsSteps, StepsAreCalled}
 use Rattle.live_theorems.proofs.LawProof.{live-law, near-least}
 use Rattle.live_theorems.proofs.ReexposedLaws.{reexposed-alike}
@@ -68,7 +68,7 @@ law-of-calls order steps m end numbers newest w h s tolerance percentile cs rs w
     let law = live-law order steps in
     let same = called-steps order m end (starting numbers newest w h s tolerance percentile ∷ cs) rs calls in (
       same .0 ∙ law .asSession m numbers newest w h s tolerance percentile cs within e,
-      subst (Holds16 (sessionAfter (opened w h s tolerance percentile) cs)) (sym (same .1)) (law .heldAfter m numbers newest w h s tolerance percentile cs within e),
+      subst (HoldsSession (sessionAfter (opened w h s tolerance percentile) cs)) (sym (same .1)) (law .heldAfter m numbers newest w h s tolerance percentile cs within e),
     )
 
 pub law-of-calls-least : LawOfCalls leastMoveOrder

@@ -14,7 +14,7 @@ use Rattle.live.specs.Steps.{Call, Reply, startNumber}
 use Rattle.live.specs.LiveCalls.{StartCall, AddCall, DropCall, TellCall}
 use Rattle.live_theorems.specs.Runs.{Handed, slicesOf, Within, replies, afterAll}
 use Rattle.live_theorems.specs.Sessions.{opened, repliesIn, sessionAfter}
-use Rattle.live_theorems.specs.LiveLaw.{starting, accepted, Holds16}
+use Rattle.live_theorems.specs.LiveLaw.{starting, accepted, HoldsSession}
 use Rattle.live_theorems.specs.ReexposedSessions.{AlikeCalls}
 
 -- What a board reads of an answer: the refusal number, 0 where there is none, of how many frames offsets were told, and those offsets. Start, add and drop tell none.
@@ -63,7 +63,7 @@ LawOfCalls order =
     (m end : Memory) (numbers newest w h s tolerance percentile : ℕ) (cs : List Handed) (rs : List Reply)
     → Within m (starting numbers newest w h s tolerance percentile ∷ cs) → startNumber w h s tolerance percentile numbers newest ≡ 0
     → CalledList order m (starting numbers newest w h s tolerance percentile ∷ cs) end rs
-    → (rs ≡ accepted ∷ repliesIn order (opened w h s tolerance percentile) cs) × Holds16 (sessionAfter (opened w h s tolerance percentile) cs) end
+    → (rs ≡ accepted ∷ repliesIn order (opened w h s tolerance percentile) cs) × HoldsSession (sessionAfter (opened w h s tolerance percentile) cs) end
 
 -- Demand 3 in the same terms: at tolerance 0, a board reads the same of two lists of calls whose rasters are re-exposed frame by frame (`reexposed-calls` and
 -- `reexposed-calls-least`, there).

@@ -30,7 +30,7 @@ AsSession order =
     → replies order m (starting numbers newest w h s tolerance percentile ∷ cs) ≡ accepted ∷ repliesIn order (opened w h s tolerance percentile) cs
 
 -- The memory then holds the session's size, settings and number of frames, which is 16 at most.
-pub record Holds16 (S : Session) (m : Memory) : Type 0 where
+pub record HoldsSession (S : Session) (m : Memory) : Type 0 where
   pub bracket : bracketOf (m .numbers) ≡ bracketIn S
   pub few : length (S .rasters) ≤ maxFrames
 
@@ -38,7 +38,7 @@ abbrev pub HeldAfter : List Offset → Type 0
 HeldAfter order =
     (m : Memory) (numbers newest w h s tolerance percentile : ℕ) (cs : List Handed)
     → Within m (starting numbers newest w h s tolerance percentile ∷ cs) → startNumber w h s tolerance percentile numbers newest ≡ 0
-    → Holds16 (sessionAfter (opened w h s tolerance percentile) cs) (afterAll order m (starting numbers newest w h s tolerance percentile ∷ cs))
+    → HoldsSession (sessionAfter (opened w h s tolerance percentile) cs) (afterAll order m (starting numbers newest w h s tolerance percentile ∷ cs))
 
 -- The series call itself, on the frames of a session that a list of calls leads to, one or more, with buffers and work memory as long as it needs: it is accepted, and the
 -- offsets that it writes are those that the session tells.

@@ -1,5 +1,5 @@
 -- The shape's number stands for its three tests.
-use mathlib.Core.Path.{sym, _∙_}
+use mathlib.Core.Path.{sym}
 use borrow.Author.Needs.{needs}
 use Rattle.rules.specs.Refusals.{badTolerance}
 use Rattle.live.specs.Steps.{badBracket}

@@ -1,5 +1,4 @@
 -- The bound is small, so that its opposite fits.
-use native.Mathlib.Omega.{arith}
 use borrow.Author.Needs.{needs}
 use Rattle.held_numbers.proofs.NumberLaws.{opposite-fits, far-first, far-second}
 use Rattle.held_numbers.proofs.far.Statement.{statement}

@@ -1,6 +1,5 @@
 use mir.Facts.{toZ-ofZ}
 use Prim.Native.Nat.{_-_, _≤_}
-use lib.ListN.{length}
 use Rattle.live.specs.Held.{pairPlace}
 use Rattle.held_writes.proofs.WriteLaws.{MovedUpTo, moved-none, moved-more, moved-pairs}
 use native.Mathlib.Omega.{arith}

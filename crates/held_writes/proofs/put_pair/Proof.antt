@@ -1,6 +1,5 @@
 use mathlib.Core.Path.{refl}
 use Rattle.held_writes.proofs.WriteLaws.{pair-put}
-use native.Mathlib.Omega.{arith}
 use borrow.Author.Needs.{needs}
 use Rattle.held_writes.proofs.put_pair.Statement.{statement}
 use Rattle.held_writes.proofs.put_pair.Tie as tie

@@ -1,11 +1,9 @@
 -- An accepted add finds numbers within their limits, and room for a frame.
 use mathlib.Core.Path.{_≡_, sym, _∙_}
-use mathlib.Core.Bool.{Bool}
 use borrow.Author.Needs.{needs}
 use lib.ListN.{length}
 use Rattle.rules.specs.Levels.{leastMoveOrder}
 use Rattle.live.specs.Held.{Memory, memoryOf, bracketOf}
-use Rattle.live.specs.HeldOk.{AddOk}
 use Rattle.live.specs.Steps.{Call, badHeld, numberOf, made}
 use Rattle.live.proofs.LimitLaws.{held-ok, add-ok}
 use Rattle.live.proofs.StepLaws.{refused-work, accepted-work}

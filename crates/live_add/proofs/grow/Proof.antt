@@ -1,5 +1,5 @@
 -- The bracket that was read is within its limits and has room for a frame; the pair is put after the others.
-use mathlib.Core.Path.{_≡_, subst}
+use mathlib.Core.Path.{subst}
 use mathlib.Core.Bool.{false}
 use mathlib.Core.List.{List}
 use native.Mathlib.Omega.{arith}
@@ -9,7 +9,7 @@ use borrow.Author.Needs.{needs}
 use Rattle.rules.specs.declared.Offset.{Offset}
 use Rattle.rules.specs.Limits.{maxFrames}
 use Rattle.rules.specs.Levels.{leastMoveOrder}
-use Prim.Native.Nat.{ℕ, _≤_, _<_}
+use Prim.Native.Nat.{_<_}
 use Rattle.live.specs.declared.Bracket.{Bracket}
 use Rattle.live.specs.HeldOk.{BracketOk, AddOk}
 use Rattle.live.specs.Steps.{setupIn}

@@ -1,5 +1,4 @@
 -- The size is within its limits, so that the products fit.
-use native.Mathlib.Omega.{arith}
 use borrow.Author.Needs.{needs}
 use Rattle.rules.specs.Refusals.{_when_}
 use Rattle.rules.proofs.RefusalLaws.{orElse-none}

@@ -1,9 +1,6 @@
 -- The size is within its limits, so that the product fits.
-use mathlib.Core.Path.{sym, _∙_}
-use native.Mathlib.Omega.{arith}
 use borrow.Author.Needs.{needs}
 use borrow.Author.Tests.{eq-eqb, ne-eqb}
-use Rattle.rules.specs.Refusals.{_when_}
 use Rattle.rules.proofs.RefusalLaws.{orElse-none}
 use Rattle.live_refusals.proofs.drop_rest.Statement.{statement}
 use Rattle.live_refusals.proofs.drop_rest.Tie as tie

@@ -1,6 +1,5 @@
 -- Each return rewrites with the tests on the way there.
 use mathlib.Core.Path.{sym, _∙_}
-use native.Mathlib.Omega.{arith}
 use borrow.Author.Needs.{needs}
 use borrow.Author.Tests.{eq-eqb, ne-eqb}
 use Rattle.live_refusals.proofs.held_refusal.Statement.{statement}

@@ -2,8 +2,6 @@
 use mathlib.Core.Path.{sym, _∙_}
 use native.Mathlib.Omega.{arith}
 use borrow.Author.Needs.{needs}
-use Rattle.rules.specs.Accepted.{ShapeOk}
-use Rattle.rules.specs.Refusals.{_when_}
 use Rattle.rules.proofs.RefusalLaws.{orElse-none}
 use Rattle.rules.proofs.AlignmentLaws.{shape-ok}
 use Rattle.align_refusals.proofs.AlignRefusalLaws.{shape-first, shape-pass}

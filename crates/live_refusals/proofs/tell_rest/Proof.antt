@@ -1,5 +1,4 @@
 -- The size is within its limits, so that the products fit.
-use native.Mathlib.Omega.{arith}
 use borrow.Author.Needs.{needs}
 use Rattle.rules.proofs.RefusalLaws.{orElse-none}
 use Rattle.live_refusals.proofs.tell_rest.Statement.{statement}

@@ -1,6 +1,5 @@
 -- The flat row is the frame, and there is no more of it.
 use Rattle.newest_frame.proofs.NewestLaws.{replaced}
-use native.Mathlib.Omega.{arith}
 use borrow.Author.Needs.{needs}
 use Rattle.newest_frame.proofs.replace_newest.Statement.{statement}
 use Rattle.newest_frame.proofs.replace_newest.Tie as tie
