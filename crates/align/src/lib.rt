@@ -1,4 +1,5 @@
 // The recursive alignment of two grey frames that stand in lent memory.
+#![tactic(auto)]
 
 ghost use Rattle.std.specs.Prelude.{◌+◌, ◌*◌, ◌≤◌, length};
 ghost use Rattle.rules.specs.Bitmaps.{row_words};

@@ -1,5 +1,6 @@
 // The refusal numbers of the pair and the series call, worked out from sizes, settings and lengths alone; of
 // the percentiles the values too.
+#![tactic(auto)]
 
 ghost use Rattle.std.specs.Prelude.{◌≡◌, ◌<◌};
 ghost use Rattle.rules.specs.Refusals.{bad_percentiles, pair_refusal, series_refusal};

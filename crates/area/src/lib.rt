@@ -1,4 +1,5 @@
 // The common area of a series' frames: the offered call.
+#![tactic(auto)]
 
 ghost use Rattle.std.specs.Prelude.{◌≡◌, ◌*◌, ◌≤◌, length};
 ghost use Rattle.area.specs.Common.{nothing_common, common_area, common, area_answer};
@@ -14,7 +15,7 @@ mod ranges;
 mod sides;
 
 // Columns from left up to right, rows from top up to bottom; right and bottom are not included.
-#[derive(Drop)]
+#[derive(Clone, Copy)]
 pub struct Area {
     pub left: usize,
     pub right: usize,
@@ -23,7 +24,7 @@ pub struct Area {
 }
 
 // The answer of the common-area call.
-#[derive(Drop)]
+#[derive(Clone, Copy)]
 pub enum Common {
     Area(Area),
     Refused(u32),

@@ -1,4 +1,5 @@
 // The blink row (document 01's term): one row of one of two rasters, for a display that shows them in turn. The offered calls.
+#![tactic(auto)]
 
 ghost use Rattle.std.specs.Prelude.{◌≡◌};
 ghost use Rattle.blink.specs.Blink.{blink_refusal, blink_answer, BlinkCall};
@@ -6,7 +7,7 @@ ghost use Rattle.blink.specs.Blink.{blink_refusal, blink_answer, BlinkCall};
 use refusals::{Faults, NONE, bad_size, lowest};
 
 // The answer of the blink row's companion: where the row begins in the chosen raster.
-#[derive(Drop)]
+#[derive(Clone, Copy)]
 pub enum Row {
     At(usize),
     Refused(u32),

@@ -1,4 +1,5 @@
 // The program `bracket`: reads the settings line and two files, and prints what `report` makes of them.
+#![tactic(auto)]
 
 ghost use Rattle.io.specs.Counts.{IsPrefixLen};
 

@@ -1,4 +1,5 @@
 // Answers as C gets them: a number, and values behind pointers.
+#![tactic(auto)]
 
 ghost use Rattle.std.specs.Prelude.{◌≡◌};
 ghost use Rattle.c_answers.specs.Values.{refusal_in, pair_refusal_in, offset, offset_after, rotation_refusal_in, turned_after, told_refusal_in, frames_after};

@@ -1,5 +1,6 @@
 // Crops of a raster: the places of a frame's four quadrants, and a crop's grey, row by row straight from the
 // frame.
+#![tactic(auto)]
 
 ghost use Rattle.std.specs.Prelude.{◌≡◌, ◌+◌, ◌*◌, ◌≤◌, length};
 ghost use Rattle.rules.specs.Greys.{grey_frame};
@@ -10,7 +11,7 @@ ghost use Rattle.crop.specs.Quadrants.{crop_at, quadrant_crop};
 use grey::conversion::convert;
 
 // The w by h pixels of a frame that begin at column `left` and row `top`.
-#[derive(Drop)]
+#[derive(Clone, Copy)]
 pub struct Crop {
     pub left: usize,
     pub top: usize,
@@ -18,7 +19,7 @@ pub struct Crop {
     pub h: usize,
 }
 
-#[derive(Drop)]
+#[derive(Clone, Copy)]
 pub enum Quadrant {
     UpperLeft,
     UpperRight,

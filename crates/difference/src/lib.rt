@@ -1,4 +1,5 @@
 // The difference count and the compared number of two frames' four lent bitmaps.
+#![tactic(auto)]
 
 pub mod edges;
 pub mod interior;

@@ -1,4 +1,5 @@
 // Where a packed row of one frame and a moved row of another differ, and where both are kept.
+#![tactic(auto)]
 
 ghost use Rattle.std.specs.Prelude.{◌<◌, ◌≤◌};
 ghost use Rattle.words.specs.Moves.{Moves};

@@ -1,4 +1,5 @@
 // The text that `bracket` prints for two files.
+#![tactic(auto)]
 
 ghost use Rattle.std.specs.Prelude.{◌≡◌};
 ghost use Rattle.files_text.specs.FilesText.{files_text, files_align};

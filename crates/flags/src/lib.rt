@@ -1,4 +1,5 @@
 // The tests of single pixels, as flags in an array that the compiler fills many at a time.
+#![tactic(auto)]
 
 ghost use Rattle.std.specs.Prelude.{◌≡◌, ◌+◌, ◌*◌, ◌≤◌, length};
 ghost use Rattle.flags.specs.Flags.{outside_bit, flag_at, Weighed};

@@ -1,4 +1,5 @@
 // The core of the quadrants call: each quadrant in turn, in the same work memory.
+#![tactic(auto)]
 
 ghost use Rattle.std.specs.Prelude.{◌≡◌, [], ◌∷◌, ◌+◌, ◌*◌, ◌≤◌, length};
 ghost use Rattle.rules.specs.Frames.{written_over};

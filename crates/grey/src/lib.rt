@@ -1,4 +1,5 @@
 // Grey conversion of rasters: the offered call.
+#![tactic(auto)]
 
 pub mod conversion;
 

@@ -1,6 +1,7 @@
 // The grey values of a block of 32 pixels, in small local arrays and loops without a branch, which the
 // compiler takes many bytes at a time. Picking every third byte is not such a loop, but a perfect
 // shuffle is, and five of them bring each colour's bytes together.
+#![tactic(auto)]
 
 ghost use Rattle.std.specs.Prelude.{◌≡◌, ◌+◌, ◌≤◌, length};
 ghost use Rattle.rules.specs.Greys.{grey};

@@ -1,5 +1,6 @@
 // The second smallest of four grey values, and a block of 32 of them: it goes through one small local array
 // in loops without a branch, which the compiler takes many bytes at a time.
+#![tactic(auto)]
 
 ghost use Rattle.std.specs.Prelude.{◌≡◌, ◌+◌, ◌≤◌, min, max, length};
 ghost use Rattle.rules.specs.Greys.{second_smallest};

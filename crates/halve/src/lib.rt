@@ -1,4 +1,5 @@
 // Halving of grey frames: the offered call.
+#![tactic(auto)]
 
 pub mod halving;
 

@@ -1,4 +1,5 @@
 // The numbers of a live bracket's memory, read: what they say, and whether they break a limit.
+#![tactic(auto)]
 
 ghost use Rattle.std.specs.Prelude.{◌≡◌, ◌+◌, ◌*◌, ◌≤◌, ◌<◌, ltb, nat_abs, length};
 ghost use Rattle.rules.specs.Limits.{max_offset};

@@ -1,4 +1,5 @@
 // The numbers of a live bracket's memory, written: what it says of size, settings and frames, and its pairs.
+#![tactic(auto)]
 
 ghost use Rattle.std.specs.Prelude.{◌≡◌, ◌<◌, ◌≤◌, length};
 ghost use Rattle.rules.specs.Frames.{written_over};

@@ -1,4 +1,5 @@
 // How often each grey value stands in a frame.
+#![tactic(auto)]
 
 ghost use Rattle.std.specs.Prelude.{◌≡◌, ℕ, ◌+◌, ◌-◌, ◌%◌, ◌<◌, ◌≤◌, length, get_or};
 ghost use Rattle.histogram.specs.Counts.{max_pixels, count_to, count_in, CountsOf};

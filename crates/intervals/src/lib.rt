@@ -1,4 +1,5 @@
 // Intervals of grey values near a threshold: by a tolerance, in grey steps, and by a band, in percentiles.
+#![tactic(auto)]
 
 ghost use Rattle.std.specs.Prelude.{◌≡◌, List, ℕ, ◌+◌, ◌-◌, ◌≤◌, ◌<◌, min};
 ghost use Rattle.histogram.specs.Counts.{max_pixels, total, CountsOf};
@@ -8,7 +9,7 @@ use pack::interval::{high_end, low_end};
 use threshold::walk::threshold_of;
 
 // Grey values from lo to hi, both included.
-#[derive(Drop)]
+#[derive(Clone, Copy)]
 pub struct Interval {
     pub lo: u8,
     pub hi: u8,

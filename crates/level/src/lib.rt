@@ -1,4 +1,5 @@
 // One level of the alignment of two grey frames that stand in lent memory.
+#![tactic(auto)]
 
 ghost use Rattle.std.specs.Prelude.{◌+◌, ◌*◌, ◌≤◌, length, drop};
 ghost use Rattle.rules.specs.Limits.{max_centre};

@@ -1,5 +1,6 @@
 // The difference counts and compared numbers of a level at the nine candidates, of two frames whose bitmaps
 // stand one after the other in lent words.
+#![tactic(auto)]
 
 ghost use Rattle.std.specs.Prelude.{◌+◌, ◌*◌, ◌≤◌, ◌<◌, length};
 ghost use Rattle.rules.specs.Limits.{max_centre};

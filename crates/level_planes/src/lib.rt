@@ -1,4 +1,5 @@
 // Both bitmaps of a grey frame that stands in lent memory, into lent words.
+#![tactic(auto)]
 
 pub mod exclusion;
 

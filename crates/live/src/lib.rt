@@ -1,10 +1,11 @@
 // The live bracket: what its calls share. Its memory and its calls are defined in specs/.
+#![tactic(auto)]
 
 ghost use Rattle.std.specs.Prelude.{◌≡◌, ◌-◌};
 
 // What the first numbers of the held memory say: size and settings of a live bracket, and how many frames
 // it holds.
-#[derive(Drop)]
+#[derive(Clone, Copy)]
 pub struct Bracket {
     pub w: usize,
     pub h: usize,
@@ -15,7 +16,7 @@ pub struct Bracket {
 }
 
 // The answer of the call that tells the offsets: of how many frames.
-#[derive(Drop)]
+#[derive(Clone, Copy)]
 pub enum Told {
     Frames(u32),
     Refused(u32),

@@ -1,4 +1,5 @@
 // The live bracket: a frame is added at its end.
+#![tactic(auto)]
 
 ghost use Rattle.std.specs.Prelude.{◌≡◌, false, length};
 ghost use Rattle.rules.specs.Levels.{least_move_order};

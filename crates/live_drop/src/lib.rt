@@ -1,4 +1,5 @@
 // The live bracket: its oldest frame is dropped.
+#![tactic(auto)]
 
 ghost use Rattle.std.specs.Prelude.{◌≡◌, [], ◌<◌, length};
 ghost use Rattle.rules.specs.Levels.{least_move_order};

@@ -1,5 +1,6 @@
 // The refusal numbers of the live bracket's calls, worked out before anything is written. 16 stands before
 // all others but the length of the held numbers, since the other tests work with what these say.
+#![tactic(auto)]
 
 ghost use Rattle.std.specs.Prelude.{◌≡◌, ◌||◌, ◌*◌, eqb, length};
 ghost use Rattle.rules.specs.Limits.{max_frames};

@@ -1,4 +1,5 @@
 // The live bracket: a held series is started.
+#![tactic(auto)]
 
 ghost use Rattle.rules.specs.Levels.{least_move_order};
 ghost use Rattle.live.specs.LiveCalls.{StartCall};

@@ -1,4 +1,5 @@
 // The live bracket: its offsets are told.
+#![tactic(auto)]
 
 ghost use Rattle.rules.specs.Levels.{least_move_order};
 ghost use Rattle.live.specs.LiveCalls.{TellCall};

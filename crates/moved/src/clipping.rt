@@ -6,7 +6,7 @@ use words::moves::smaller;
 use words::{BIAS, biased};
 
 // The places to..to+count of the moved side come from from..from+count; the others from outside.
-#[derive(Drop)]
+#[derive(Clone, Copy)]
 pub struct Span {
     pub to: usize,
     pub from: usize,

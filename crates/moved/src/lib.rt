@@ -1,4 +1,5 @@
 // The moved frame: the offered call.
+#![tactic(auto)]
 
 ghost use Rattle.std.specs.Prelude.{◌≡◌};
 ghost use Rattle.moved.specs.Moved.{moved_refusal, MovedCall};

@@ -1,4 +1,5 @@
 // The newest frame of a live bracket: a new one takes its place, and is aligned with it.
+#![tactic(auto)]
 
 ghost use Rattle.std.specs.Prelude.{◌≡◌, ◌+◌, ◌*◌, ◌≤◌, length};
 ghost use Rattle.rules.specs.Buffers.{RowAt};

@@ -1,4 +1,5 @@
 // One pair of a series: the grey of its second frame, its alignment, and its offset kept.
+#![tactic(auto)]
 
 ghost use Rattle.std.specs.Prelude.{◌≡◌, length};
 ghost use Rattle.rules.specs.Levels.{Arrangement, arranged};

@@ -1,4 +1,5 @@
 // The offsets of a series' frames from its reference, from the offsets of its pairs.
+#![tactic(auto)]
 
 ghost use Rattle.std.specs.Prelude.{◌≡◌, ◌+◌, ◌*◌, ◌-◌, ◌<◌, ◌≤◌, length};
 ghost use Rattle.rules.specs.Limits.{max_offset};

@@ -1,4 +1,5 @@
 // The printed lines, put into a buffer piece by piece. Each function answers the place after its text.
+#![tactic(auto)]
 
 ghost use Rattle.std.specs.Prelude.{◌≡◌, ◌++◌, ◌+◌, ◌*◌, ◌≤◌, nat_abs, length};
 ghost use Rattle.output_lines.specs.Lines.{refused_text, signed, offset_text, counts_text, level_text, levels_text};

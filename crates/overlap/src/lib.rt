@@ -1,5 +1,6 @@
 // The difference count and the compared number of two frames that are moved against each other by whole
 // rows only: one run of words of the first against one of the second.
+#![tactic(auto)]
 
 ghost use Rattle.std.specs.Prelude.{◌≡◌, ◌+◌, ◌*◌, ◌≤◌, pos};
 ghost use Rattle.rules.specs.Limits.{max_side};

@@ -1,4 +1,5 @@
 // P6 headers read: the first bytes of a file, field by field.
+#![tactic(auto)]
 
 ghost use Rattle.std.specs.Prelude.{◌≡◌};
 ghost use Rattle.p6_whitespace.specs.Whitespace.{WhiteOrComment};
@@ -9,7 +10,7 @@ use p6_whitespace::{is_white, whitespace_length};
 use text::Number;
 
 // What a file's first bytes say: the size, and where the raster begins.
-#[derive(Drop)]
+#[derive(Clone, Copy)]
 pub enum Header {
     Good { w: u32, h: u32, start: usize },
     Bad,

@@ -1,4 +1,5 @@
 // The whitespace of P6 headers: its bytes, and comments.
+#![tactic(auto)]
 
 ghost use Rattle.std.specs.Prelude.{◌≡◌};
 ghost use Rattle.p6_whitespace.specs.Whitespace.{is_white, ends_line};

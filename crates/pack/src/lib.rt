@@ -1,4 +1,5 @@
 // Packing of a grey frame into its threshold bitmap and its exclusion bitmap.
+#![tactic(auto)]
 
 use frame::pack_frame;
 use interval::{high_end, low_end};

@@ -1,4 +1,5 @@
 // Alignment of a pair of rasters with a noise band by rank in place of the tolerance.
+#![tactic(auto)]
 
 ghost use Rattle.rules.specs.Levels.{least_move_order};
 ghost use Rattle.rules.specs.Calls.{band_setup, PairCall};

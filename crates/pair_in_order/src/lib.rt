@@ -1,4 +1,5 @@
 // What a pair call does, refusals included, in any order of the nine.
+#![tactic(auto)]
 
 mod rasters;
 

@@ -10,7 +10,7 @@ ghost use Rattle.popcount.specs.Table.{CountsBits};
 use crate::table::word_count;
 
 // Three words added in each of their places: the low digits of the sums, and the carries.
-#[derive(Drop)]
+#[derive(Clone, Copy)]
 pub struct Sums {
     pub low: u64,
     pub carry: u64,

@@ -1,4 +1,5 @@
 // The reader of P6 files (Netpbm's ppm): the offered calls.
+#![tactic(auto)]
 
 pub mod reading;
 
@@ -6,14 +7,14 @@ ghost use Rattle.std.specs.Prelude.{◌≡◌};
 ghost use Rattle.ppm_read.specs.P6.{size_answer, RasterCall};
 
 // A frame's width and height.
-#[derive(Drop)]
+#[derive(Clone, Copy)]
 pub struct Size {
     pub w: usize,
     pub h: usize,
 }
 
 // The answer of the reader's companion: the size of the frame that a file holds.
-#[derive(Drop)]
+#[derive(Clone, Copy)]
 pub enum SizeRead {
     Frame(Size),
     Refused(u32),

@@ -1,11 +1,12 @@
 // The writer of P6 files (Netpbm's ppm): the offered call.
+#![tactic(auto)]
 
 pub mod writing;
 
 ghost use Rattle.ppm_write.specs.P6Writes.{WriteCall};
 
 // The answer of the writer: the number of bytes written.
-#[derive(Drop)]
+#[derive(Clone, Copy)]
 pub enum FileWritten {
     Bytes(usize),
     Refused(u32),

@@ -1,5 +1,6 @@
 // Halving of a grey frame inside one lent memory, level under level: a memory can't be lent in two
 // parts at once, so the frame and its half are places of one slice.
+#![tactic(auto)]
 
 ghost use Rattle.std.specs.Prelude.{◌+◌, ◌*◌, ◌/◌, ◌≤◌, length, drop};
 ghost use Rattle.rules.specs.Frames.{frame_of};

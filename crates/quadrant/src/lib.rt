@@ -1,4 +1,5 @@
 // The core of the quadrants call: one quadrant of two frames, aligned as a pair.
+#![tactic(auto)]
 
 ghost use Rattle.std.specs.Prelude.{◌≡◌, length};
 ghost use Rattle.rules.specs.Levels.{Arrangement, arranged};

@@ -1,4 +1,5 @@
 // The refusal number of the quadrants call, worked out from sizes, settings and lengths alone.
+#![tactic(auto)]
 
 ghost use Rattle.std.specs.Prelude.{◌≡◌};
 ghost use Rattle.quadrant_refusals.specs.QuadrantRefusals.{quadrants_refusal};

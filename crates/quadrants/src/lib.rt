@@ -1,4 +1,5 @@
 // The field rotation warning: the four quadrants of a pair, each aligned by itself. The offered call.
+#![tactic(auto)]
 
 ghost use Rattle.rules.specs.Levels.{least_move_order};
 ghost use Rattle.rules.specs.Calls.{tolerance_setup};

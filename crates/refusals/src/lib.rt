@@ -1,6 +1,7 @@
 // The order of the refusal numbers, and tests that several calls share. A call's number is worked
 // out before it writes anything, from sizes, settings and lengths alone, but for a file's header (1) and
 // a common area's offsets (12, 13): the lowest that applies, 0 where none does.
+#![tactic(auto)]
 
 ghost use Rattle.std.specs.Prelude.{◌≡◌};
 ghost use Rattle.rules.specs.Refusals.{◌when◌, ◌or_else◌, bad_size, bad_frames, bad_percentile, tolerance_refusal, band_refusal};
@@ -17,7 +18,7 @@ pub const MAX_FRAMES: usize = 16;
 
 // What is wrong with a call. A header, sizes and halvings (1 to 3) are tested before, since other tests
 // work with them; the common area (13) after, since it has to be worked out.
-#[derive(Drop)]
+#[derive(Clone, Copy)]
 pub struct Faults {
     pub small: bool, // 4: a side is too short for the halvings
     pub excluded: u32, // the number that refuses the exclusion setting, in the place of 5; 0 where none does

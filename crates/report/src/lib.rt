@@ -1,4 +1,5 @@
 // What the program `bracket` prints, from what it has read: the offered call.
+#![tactic(auto)]
 
 ghost use Rattle.std.specs.Prelude.{◌≡◌};
 ghost use Rattle.report.specs.Output.{as_read, BracketCall};

@@ -1,4 +1,5 @@
 // The field rotation warning: what the offsets of four quadrants say.
+#![tactic(auto)]
 
 ghost use Rattle.std.specs.Prelude.{◌≡◌, [], ◌∷◌, ◌≤◌, nat_abs};
 ghost use Rattle.rules.specs.Limits.{max_offset};
@@ -8,7 +9,7 @@ ghost use Rattle.rotation.specs.Turns.{apart, differing, turned};
 use rules::Offset;
 
 // The answer of the quadrants call.
-#[derive(Drop)]
+#[derive(Clone, Copy)]
 pub enum Rotation {
     Turned,
     NotTurned,

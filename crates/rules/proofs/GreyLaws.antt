@@ -1,5 +1,5 @@
 -- Laws of the pixel rules: the second smallest of four by minima and maxima alone, as code without a sort takes it.
-use mathlib.Core.Path.{◌≡◌, sym, ap, ap₂, ◌∙◌}
+use mathlib.Core.Path.{◌≡◌, refl, sym, ap, ap₂, ◌∙◌}
 use mathlib.Core.Logic.{⊎_elim}
 use mathlib.Core.List.{List, [], ◌∷◌}
 use Prim.Native.Nat.{ℕ, ◌≤◌, ◌<◌, min, max}
@@ -29,10 +29,14 @@ unfolding insert
 insert-cons a b c l k = ⊎_elim above below (order b a)
   where
     above : b < a → insert a (b ∷ c ∷ l) ≡ min a b ∷ insert (max a b) (c ∷ l)
-    above m = let p : min a b ≡ b = omega arith in let q : max a b ≡ a = omega arith in rw (lt-leb a b m, p, q)
+    above m =
+        let put : insert a (b ∷ c ∷ l) ≡ b ∷ insert a (c ∷ l) = rw (lt-leb a b m) refl in
+        put ∙ ap₂ (λ (x y : ℕ). x ∷ insert y (c ∷ l)) (omega arith) (omega arith)
 
     below : a ≤ b → insert a (b ∷ c ∷ l) ≡ min a b ∷ insert (max a b) (c ∷ l)
-    below m = let p : min a b ≡ a = omega arith in let q : max a b ≡ b = omega arith in rw (le-leb a b m, p, q, le-leb b c k)
+    below m =
+        let put : insert a (b ∷ c ∷ l) ≡ a ∷ insert b (c ∷ l) = rw (le-leb a b m, le-leb b c k) refl in
+        put ∙ ap₂ (λ (x y : ℕ). x ∷ insert y (c ∷ l)) (omega arith) (omega arith)
 
 -- the third number of a sort goes between the first two, and the fourth between what is then first and second
 second-chain : (a b c d : ℕ)

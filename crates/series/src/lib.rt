@@ -1,4 +1,5 @@
 // Alignment of a series: the two offered calls, which differ in the order that they lend.
+#![tactic(auto)]
 
 ghost use Rattle.rules.specs.Levels.{ward_order, least_move_order};
 ghost use Rattle.rules.specs.Calls.{tolerance_settings, SeriesCall};

@@ -1,4 +1,5 @@
 // Alignment of a series with a noise band by rank in place of the tolerance.
+#![tactic(auto)]
 
 ghost use Rattle.rules.specs.Levels.{least_move_order};
 ghost use Rattle.rules.specs.Calls.{band_settings, SeriesCall};

@@ -1,4 +1,5 @@
 // What a series call does, refusals included, in any order of the nine.
+#![tactic(auto)]
 
 mod aligning;
 

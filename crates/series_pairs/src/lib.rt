@@ -1,4 +1,5 @@
 // The pairs of a series, one after another.
+#![tactic(auto)]
 
 ghost use Rattle.std.specs.Prelude.{length};
 ghost use Rattle.rules.specs.Levels.{Arrangement, arranged};

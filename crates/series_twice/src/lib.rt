@@ -1,4 +1,5 @@
 // Demand 3 as a contract: a series call, made for a series and for another one.
+#![tactic(auto)]
 
 ghost use Rattle.rules.specs.Levels.{order_of};
 ghost use Rattle.rules.specs.Calls.{tolerance_settings, SeriesCall};
@@ -10,14 +11,14 @@ use series::{series, series_ward};
 use series_band::series_band;
 
 // A series call, by its order and tolerance, or by its band.
-#[derive(Drop)]
+#[derive(Clone, Copy)]
 pub enum Kind {
     Tolerance(Order, u32),
     Band(u32),
 }
 
 // The answers of two series calls.
-#[derive(Drop)]
+#[derive(Clone, Copy)]
 pub struct Answers {
     pub first: Written,
     pub second: Written,

@@ -1,4 +1,5 @@
 // The settings line `s T P` of the program `bracket`.
+#![tactic(auto)]
 
 ghost use Rattle.std.specs.Prelude.{◌≡◌, not, ◌≤◌, eqb, length};
 ghost use Rattle.text.specs.Digits.{leading};
@@ -8,7 +9,7 @@ ghost use Rattle.settings_line.specs.SpacedNumbers.{spaced_number};
 use text::{Number, read_number};
 
 // What a settings line says.
-#[derive(Drop)]
+#[derive(Clone, Copy)]
 pub enum Settings {
     Given {
         s: u32,

@@ -1,4 +1,5 @@
 // The offered shift of a packed bitmap.
+#![tactic(auto)]
 
 ghost use Rattle.rules.specs.Calls.{ShiftCall};
 

@@ -1,5 +1,6 @@
 // The rows of a shifted bitmap, from the move's quotient and remainder alone. Rows are counted from a bias,
 // so that one formula serves both directions.
+#![tactic(auto)]
 
 ghost use Rattle.std.specs.Prelude.{◌+◌, ◌*◌, ◌≤◌, length};
 ghost use Rattle.rules.specs.Buffers.{RowAt, FrameAt};

@@ -1,5 +1,6 @@
 // The words of a packed bitmap moved sideways from one memory into another: their interior words in one
 // run, and some columns of words of all rows. (`slide_words` has the same inside one memory.)
+#![tactic(auto)]
 
 ghost use Rattle.std.specs.Prelude.{◌≡◌, ◌+◌, ◌*◌, ◌≤◌, ◌<◌, length};
 ghost use Rattle.rules.specs.Buffers.{FrameAt};

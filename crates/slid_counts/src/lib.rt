@@ -1,5 +1,6 @@
 // The second frame of two slid inside the lent words, and the difference count and compared number
 // against it.
+#![tactic(auto)]
 
 ghost use Rattle.std.specs.Prelude.{◌≡◌, ◌*◌, ◌≤◌, length};
 ghost use Rattle.rules.specs.Limits.{max_candidate};

@@ -1,5 +1,6 @@
 // A packed bitmap moved sideways inside one lent memory: a memory can't be lent in two parts at once, so
 // the bitmap and the moved one are places of one slice.
+#![tactic(auto)]
 
 ghost use Rattle.std.specs.Prelude.{◌+◌, ◌*◌, ◌≤◌, pos, length, drop};
 ghost use Rattle.rules.specs.Limits.{max_side};

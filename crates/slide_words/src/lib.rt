@@ -1,5 +1,6 @@
 // The words of a packed bitmap moved sideways inside one lent memory: some columns of words of all rows, or
 // their interior words in one run.
+#![tactic(auto)]
 
 ghost use Rattle.std.specs.Prelude.{◌+◌, ◌*◌, ◌-◌, ◌≤◌, ◌<◌, length};
 ghost use Rattle.rules.specs.Limits.{word_bits};

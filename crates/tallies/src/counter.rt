@@ -13,7 +13,7 @@ use popcount::adder::full_adder;
 use popcount::table::word_count;
 
 // Words whose bits stand for one, two and four each, and a number of eights.
-#[derive(Drop)]
+#[derive(Clone, Copy)]
 pub struct Counter {
     pub ones: u64,
     pub twos: u64,

@@ -1,6 +1,7 @@
 // Two counts of one pass in one number: the differences in its low 32 bits, the pixels compared above
 // them. Rows, runs and frames add up that number; only a run's eights are counted apart (`Counters`), and
 // then put into it.
+#![tactic(auto)]
 
 pub mod counter;
 
@@ -21,7 +22,7 @@ use rules::Tally;
 const COMPARED: u64 = 4294967296;
 
 // A word of each: where two frames differ, and where pixels of both are kept, which are compared.
-#[derive(Drop)]
+#[derive(Clone, Copy)]
 pub struct Words {
     pub differing: u64,
     pub kept: u64,
@@ -87,7 +88,7 @@ pub fn seven_word_tally(
 }
 
 // A running count of each.
-#[derive(Drop)]
+#[derive(Clone, Copy)]
 pub struct Counters {
     pub differing: Counter,
     pub kept: Counter,

@@ -1,4 +1,5 @@
 // Numbers as text, read and written: what P6 headers and the program `bracket` are made of.
+#![tactic(auto)]
 
 ghost use Rattle.std.specs.Prelude.{◌≡◌, ◌+◌, ◌≤◌, length, take};
 ghost use Rattle.text.specs.Digits.{is_digit, leading, decimal, number_of, digits};
@@ -8,7 +9,7 @@ ghost use Rattle.text.specs.Puts.{Put};
 const MAX_DIGITS: usize = 9;
 
 // A number of one to nine digits at the beginning of some bytes, and how many bytes it takes.
-#[derive(Drop)]
+#[derive(Clone, Copy)]
 pub enum Number {
     Read { value: u32, count: usize },
     Bad,

@@ -1,4 +1,5 @@
 // The offered call for the threshold of a grey frame.
+#![tactic(auto)]
 
 pub mod walk;
 

@@ -1,4 +1,5 @@
 // The number of 1 bits of a lent bitmap.
+#![tactic(auto)]
 
 pub mod row_totals;
 

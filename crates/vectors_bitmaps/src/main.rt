@@ -1,4 +1,5 @@
 // Test vectors of bitmaps, shift, total and difference.
+#![tactic(auto)]
 
 use rules::{Counted, Tallied, Written};
 use vectors::answers::{DIFFERS, number_when, written};
@@ -17,7 +18,7 @@ const DATA_MEMORY: usize = 320000;
 const MOST_WORDS: usize = 128;
 
 // Size and move of a record.
-#[derive(Drop)]
+#[derive(Clone, Copy)]
 struct Setup {
     w: usize,
     h: usize,

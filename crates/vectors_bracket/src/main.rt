@@ -1,4 +1,5 @@
 // Test vectors of what the program `bracket` prints.
+#![tactic(auto)]
 
 use files_text::{GREY_LENT, OUTPUT_LENT, WORDS_LENT};
 use vectors::buffers::fill_bytes;

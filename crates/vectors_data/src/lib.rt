@@ -1,5 +1,6 @@
 // Test vectors: the data file of a program vectors_*, and the count of what was compared. tests/FORMAT.md describes
 // the files.
+#![tactic(auto)]
 
 pub mod data;
 pub mod tally;

@@ -14,7 +14,7 @@ const GROUP_RECORDS: usize = 12;
 const NAMED: u64 = 5;
 
 // The group at hand and its records so far; the records of the groups before it.
-#[derive(Drop)]
+#[derive(Clone, Copy)]
 pub struct Tally {
     group: u32,
     compared: u64,

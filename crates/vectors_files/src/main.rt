@@ -1,4 +1,5 @@
 // Test vectors of the P6 reader and writer, and of what shows a result: common area, moved frame, blink row.
+#![tactic(auto)]
 
 use area::Common;
 use blink::Row;
@@ -21,7 +22,7 @@ const BYTE_MEMORY: usize = 16384;
 const MOST_OFFSETS: usize = 64;
 
 // Width and height of a record.
-#[derive(Drop)]
+#[derive(Clone, Copy)]
 struct Sides {
     w: usize,
     h: usize,
@@ -35,7 +36,7 @@ fn sides_of(data: &[u8], at: usize) -> Sides {
 }
 
 // The four expected values of a record.
-#[derive(Drop)]
+#[derive(Clone, Copy)]
 struct Values {
     one: usize,
     two: usize,

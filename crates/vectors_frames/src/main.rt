@@ -1,4 +1,5 @@
 // Test vectors of grey conversion, halving and threshold.
+#![tactic(auto)]
 
 use rules::Thresholded;
 use vectors::answers::{DIFFERS, number_when, written};

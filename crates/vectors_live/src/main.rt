@@ -1,5 +1,6 @@
 // Test vectors of the live bracket: its calls `start`, `add`, `drop_oldest` and `tell`, each with the memory before and
 // after it.
+#![tactic(auto)]
 
 use live::Told;
 use rules::Written;

@@ -1,4 +1,5 @@
 // Test vectors of `pair`, `pair_ward` and `pair_band`: of stored and of made frames.
+#![tactic(auto)]
 
 use rules::Paired;
 use vectors::answers::{DIFFERS, number_when};
@@ -28,7 +29,7 @@ const WARD: u32 = 18;
 const BAND: u32 = 24;
 
 // Sizes and settings of a record; the tolerance is the band of a call that has one.
-#[derive(Drop)]
+#[derive(Clone, Copy)]
 struct Setup {
     w: usize,
     h: usize,

@@ -1,4 +1,5 @@
 // Test vectors of `quadrants`: of stored and of made frames.
+#![tactic(auto)]
 
 use rotation::Rotation;
 use vectors::answers::{DIFFERS, number_when};
@@ -24,7 +25,7 @@ const MOST_OFFSETS: usize = 16;
 const TURNED: u32 = 1;
 
 // Sizes and settings of a record.
-#[derive(Drop)]
+#[derive(Clone, Copy)]
 struct Setup {
     w: usize,
     h: usize,

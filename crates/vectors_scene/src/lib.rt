@@ -1,4 +1,5 @@
 // Test vectors: frames made by the formula of tests/FORMAT.md.
+#![tactic(auto)]
 
 use vectors_data::data::{FILE_LENGTH, MADE, MADE_ROWS, SCENE, WIDTH, field, number_at, size};
 
@@ -51,7 +52,7 @@ fn make_bytes(scene: u64, w: u64, h: u64, out: &mut [u8]) {
 }
 
 // What a record says of its made frames.
-#[derive(Drop)]
+#[derive(Clone, Copy)]
 struct Made {
     scene: u64,
     w: u64,

@@ -1,4 +1,5 @@
 // Test vectors of `series`, `series_ward` and `series_band`: of stored and of made frames.
+#![tactic(auto)]
 
 use rules::Written;
 use vectors::answers::{DIFFERS, written};
@@ -33,7 +34,7 @@ const WARD: u32 = 18;
 const BAND: u32 = 24;
 
 // Sizes and settings of a record; the tolerance is the band of a call that has one.
-#[derive(Drop)]
+#[derive(Clone, Copy)]
 struct Setup {
     w: usize,
     h: usize,

@@ -1,5 +1,6 @@
 // The differences and the compared pixels of two runs of whole words, with no edge at the ends of rows:
 // eight words at a time.
+#![tactic(auto)]
 
 ghost use Rattle.std.specs.Prelude.{◌≡◌, ◌+◌, ◌*◌, ◌%◌, ◌<◌, ◌≤◌};
 ghost use Rattle.rules.specs.Limits.{word_bits};

@@ -1,4 +1,5 @@
 // Functions on the packed words of a row. The laws of bits and moves stand in proofs/.
+#![tactic(auto)]
 
 ghost use Rattle.std.specs.Prelude.{◌≡◌, ℕ, ◌+◌, ◌*◌, ◌<◌, ◌≤◌, ltb, length};
 ghost use Rattle.rules.specs.Limits.{word_bits};

@@ -11,7 +11,7 @@ use word_distance::{quotient, remainder};
 // A move of rows of w pixels, in n words, by q words, counted from the bias, and r bits. A word from
 // `first` up to `end` is interior: it is made of two words of the row, all three of them full, and so
 // needs no test and no mask. Up to `rest` they go in blocks of seven, for a caller that counts.
-#[derive(Drop)]
+#[derive(Clone, Copy)]
 pub struct Move {
     pub w: usize,
     pub n: usize,

@@ -1,4 +1,5 @@
 // The sizes and halvings that an alignment takes, and the work memory that it needs for them.
+#![tactic(auto)]
 
 ghost use Rattle.std.specs.Prelude.{◌≡◌, ◌<◌, ◌≤◌};
 ghost use Rattle.rules.specs.Limits.{max_side, max_halvings};
