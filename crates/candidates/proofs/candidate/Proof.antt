@@ -11,26 +11,26 @@ use Rattle.candidates.proofs.candidate.Tie as tie
 returns : tie.Need-returns
 returns c =
     let a = c.before.before.before.before.before.before in
-    let x = coordinate-is a.args.centre.dx c.before.before.before.before.before.step.result (a.args.k / 3) a.requires.1.dx c.before.before.before.before.before.step.ensures in
-    let y = coordinate-is a.args.centre.dy c.before.before.before.before.step2.result (a.args.k % 3) a.requires.1.dy c.before.before.before.before.step2.ensures in
+    let x = coordinate-is a.args.centre.dx c.step-i.result (a.args.k / 3) a.requires.1.dx c.step-i.ensures in
+    let y = coordinate-is a.args.centre.dy c.step-j.result (a.args.k % 3) a.requires.1.dy c.step-j.ensures in
     (λ i. record { dx = x i; dy = y i }) ∙ sym (candidate-is a.args.centre a.args.k a.requires.0)
 
 -- what the operations ask
-step-requires : tie.Need-step-requires
+step-requires : tie.Need-step-i-requires
 step-requires c κs = search rules
 
-step-requires-2 : tie.Need-step-requires-2
+step-requires-2 : tie.Need-step-j-requires
 step-requires-2 c κs = search rules
 
-add-t6 : tie.Need-overflow-add-t6
+add-t6 : tie.Need-overflow_add-result
 add-t6 c =
     let a = c.before.before.before.before in
-    coordinate-fits a.args.centre.dx c.before.before.before.step.result (a.args.k / 3) a.requires.1.dx c.before.before.before.step.ensures
+    coordinate-fits a.args.centre.dx c.step-i.result (a.args.k / 3) a.requires.1.dx c.step-i.ensures
 
-add-t7 : tie.Need-overflow-add-t7
+add-t7 : tie.Need-overflow_add-result-2
 add-t7 c =
     let a = c.before.before.before.before.before.before in
-    coordinate-fits a.args.centre.dy c.before.before.before.before.step2.result (a.args.k % 3) a.requires.1.dy c.before.before.before.before.step2.ensures
+    coordinate-fits a.args.centre.dy c.step-j.result (a.args.k % 3) a.requires.1.dy c.step-j.ensures
 
-pub candidate-spec : {M : Type 1} → statement M
-candidate-spec = tie.close (tie.spec step-requires step-requires-2 add-t6 add-t7 returns)
+pub candidate_spec : {M : Type 1} → statement M
+candidate_spec = tie.close (tie.spec step-requires step-requires-2 add-t6 add-t7 returns)

@@ -6,17 +6,17 @@ use Rattle.rules.proofs.LevelLaws.{ward-arrangement, least-move-arrangement}
 use Rattle.candidates.proofs.places.Statement.{statement}
 use Rattle.candidates.proofs.places.Tie as tie
 
-enum_told : tie.Need-enum-told
+enum_told : tie.Need-enum_told-1
 enum_told c = search rules
 
-enum-told-2 : tie.Need-enum-told-2
+enum-told-2 : tie.Need-enum_told-in-Ward
 enum-told-2 c = search rules
 
-returns : tie.Need-returns
-returns c = (sym (ap order_of c.enum_told.given.1), least-move-arrangement)
+returns : tie.Need-returns-in-LeastMove
+returns c = (sym (ap order_of c.enum_told-1.given.1), least-move-arrangement)
 
-returns-2 : tie.Need-returns-2
-returns-2 c = (sym (ap order_of c.enum-told2.given.1), ward-arrangement)
+returns-2 : tie.Need-returns-in-Ward
+returns-2 c = (sym (ap order_of c.enum_told-in-Ward-1.given.1), ward-arrangement)
 
-pub places-spec : {M : Type 1} → statement M
-places-spec = tie.close (tie.spec enum_told enum-told-2 returns returns-2)
+pub places_spec : {M : Type 1} → statement M
+places_spec = tie.close (tie.spec enum_told enum-told-2 returns returns-2)

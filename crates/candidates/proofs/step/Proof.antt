@@ -3,14 +3,14 @@ use Rattle.candidates.proofs.LeadingLaws.{step-beyond}
 use Rattle.candidates.proofs.step.Statement.{statement}
 use Rattle.candidates.proofs.step.Tie as tie
 
-returns : tie.Need-returns
-returns c = rw c.if1.true
+returns : tie.Need-returns-then-i-eq0
+returns c = rw c.if-i-eq0.true
 
-returns-2 : tie.Need-returns-2
-returns-2 c = rw c.if2.true
+returns-2 : tie.Need-returns-then-i-eq1
+returns-2 c = rw c.if-i-eq1.true
 
-returns-3 : tie.Need-returns-3
-returns-3 c = step-beyond c.before.before.args.i c.before.if1.false c.if2.false
+returns-3 : tie.Need-returns
+returns-3 c = step-beyond c.args.i c.if-i-eq0.false c.if-i-eq1.false
 
 pub step_spec : {M : Type 1} → statement M
 step_spec = tie.close (tie.spec returns returns-2 returns-3)

@@ -8,27 +8,27 @@ use borrow.Author.Rules.{rules}
 use Rattle.flags.proofs.outside_weight.Statement.{statement}
 use Rattle.flags.proofs.outside_weight.Tie as tie
 
-sub-place : tie.Need-overflow-sub-place
+sub-place : tie.Need-overflow_sub-place
 sub-place c = search rules
 
-add-place : tie.Need-overflow-add-place
+add-place : tie.Need-overflow_add-place
 add-place c = search rules
 
-sub-if1 : tie.Need-overflow-sub-if1
+sub-if1 : tie.Need-overflow_sub-hi
 sub-if1 c = search rules
 
-cast-if1 : tie.Need-overflow-cast-if1
+cast-if1 : tie.Need-overflow_cast-hi
 cast-if1 c = search rules
 
-returns : tie.Need-returns
+returns : tie.Need-returns-then-hi-lo
 returns c =
-    let a = c.before.args in
-    sym (ap (λ (b : ℕ). b * a.weight) (outside-past a.lo a.hi a.g (omega arith) (omega arith) (omega arith) c.if1.true) ∙ one-mul a.weight)
+    let a = c.args in
+    sym (ap (λ (b : ℕ). b * a.weight) (outside-past a.lo a.hi a.g (omega arith) (omega arith) (omega arith) c.if-hi-lo.true) ∙ one-mul a.weight)
 
-returns-2 : tie.Need-returns-2
+returns-2 : tie.Need-returns
 returns-2 c =
-    let a = c.before.args in
-    sym (ap (λ (b : ℕ). b * a.weight) (outside-first a.lo a.hi a.g (omega arith) (omega arith) (omega arith) c.if1.false) ∙ zero-mul a.weight)
+    let a = c.args in
+    sym (ap (λ (b : ℕ). b * a.weight) (outside-first a.lo a.hi a.g (omega arith) (omega arith) (omega arith) c.if-hi-lo.false) ∙ zero-mul a.weight)
 
-pub outside-weight-spec : {M : Type 1} → statement M
-outside-weight-spec = tie.close (tie.spec sub-place add-place sub-if1 cast-if1 returns returns-2)
+pub outside_weight_spec : {M : Type 1} → statement M
+outside_weight_spec = tie.close (tie.spec sub-place add-place sub-if1 cast-if1 returns returns-2)

@@ -7,31 +7,31 @@ use Rattle.rules.proofs.RefusalLaws.{or_else-none, size-known}
 use Rattle.frame_refusals.proofs.difference_refusal.Statement.{statement}
 use Rattle.frame_refusals.proofs.difference_refusal.Tie as tie
 
-bad-size-requires : tie.Need-bad-size-requires
+bad-size-requires : tie.Need-bad_size-requires
 bad-size-requires c κs = search rules
 
-returns : tie.Need-returns
+returns : tie.Need-returns-then-bad_size
 unfolding difference_refusal
-returns c = simp (sym c.before.bad-size.ensures ∙ c.if1.true)
+returns c = simp (sym c.bad_size.ensures ∙ c.if-bad_size.true)
 
-row-words-requires : tie.Need-row-words-requires
+row-words-requires : tie.Need-row_words-requires
 row-words-requires c κs = search rules
 
-mul_words : tie.Need-overflow-mul-words
+mul_words : tie.Need-overflow_mul-words
 mul_words c =
-    let k = size-known _ _ _ c.before.before.bad-size.ensures c.before.if1.false in
+    let k = size-known _ _ _ c.bad_size.ensures c.if-bad_size.false in
     rw c.row_words.ensures (omega arith)
 
 lowest-requires : tie.Need-lowest-requires
 lowest-requires c κs = search rules
 
-returns-2 : tie.Need-returns-2
+returns-2 : tie.Need-returns
 unfolding difference_refusal
 returns-2 c =
     let e = c.before.before in
-    simp (sym e.before.bad-size.ensures ∙ e.if1.false, ← c.before.row_words.ensures) (simp or_else-none at c.lowest.ensures)
+    simp (sym e.bad_size.ensures ∙ e.if-bad_size.false, ← c.row_words.ensures) (simp or_else-none at c.lowest.ensures)
 
-pub difference-refusal-spec : {M : Type 1} → statement M
-difference-refusal-spec =
+pub difference_refusal_spec : {M : Type 1} → statement M
+difference_refusal_spec =
     tie.close
     (tie.spec bad-size-requires returns row-words-requires mul_words lowest-requires returns-2)

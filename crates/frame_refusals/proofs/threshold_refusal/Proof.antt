@@ -7,29 +7,29 @@ use Rattle.rules.proofs.RefusalLaws.{or_else-none, size-known}
 use Rattle.frame_refusals.proofs.threshold_refusal.Statement.{statement}
 use Rattle.frame_refusals.proofs.threshold_refusal.Tie as tie
 
-bad-size-requires : tie.Need-bad-size-requires
+bad-size-requires : tie.Need-bad_size-requires
 bad-size-requires c κs = search rules
 
-returns : tie.Need-returns
+returns : tie.Need-returns-then-bad_size
 unfolding threshold_refusal
-returns c = simp (sym c.before.bad-size.ensures ∙ c.if1.true)
+returns c = simp (sym c.bad_size.ensures ∙ c.if-bad_size.true)
 
-mul-area : tie.Need-overflow-mul-area
-mul-area c = let k = size-known _ _ _ c.before.bad-size.ensures c.if1.false in omega arith
+mul-area : tie.Need-overflow_mul-area
+mul-area c = let k = size-known _ _ _ c.bad_size.ensures c.if-bad_size.false in omega arith
 
-bad-percentile-requires : tie.Need-bad-percentile-requires
+bad-percentile-requires : tie.Need-bad_percentile-requires
 bad-percentile-requires c κs = search rules
 
 lowest-requires : tie.Need-lowest-requires
 lowest-requires c κs = search rules
 
-returns-2 : tie.Need-returns-2
+returns-2 : tie.Need-returns
 unfolding threshold_refusal
 returns-2 c =
     let e = c.before.before in
-    simp (sym e.before.bad-size.ensures ∙ e.if1.false, ← c.before.bad-percentile.ensures) (simp or_else-none at c.lowest.ensures)
+    simp (sym e.bad_size.ensures ∙ e.if-bad_size.false, ← c.bad_percentile.ensures) (simp or_else-none at c.lowest.ensures)
 
-pub threshold-refusal-spec : {M : Type 1} → statement M
-threshold-refusal-spec =
+pub threshold_refusal_spec : {M : Type 1} → statement M
+threshold_refusal_spec =
     tie.close
     (tie.spec bad-size-requires returns mul-area bad-percentile-requires lowest-requires returns-2)

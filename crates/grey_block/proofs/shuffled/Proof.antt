@@ -11,49 +11,49 @@ use Rattle.grey_block.proofs.ColourLaws.{shuffled-even, shuffled-odd, two-more}
 use Rattle.grey_block.proofs.shuffled.Statement.{statement}
 use Rattle.grey_block.proofs.shuffled.Tie as tie
 
-abbrev invariant-loop : tie.invariant-loop
+abbrev invariant-loop : tie.invariant-loop-k
 invariant-loop all out₀ k₀ out k = (k ≤ 48) × (length out ≡ 96) × Filled (shuffled_at all) (2 * k) out
 
-abbrev decreases-loop : tie.decreases-loop
+abbrev decreases-loop : tie.decreases-loop-k
 decreases-loop all out₀ k₀ out k = 48 - k
 
-loop-holds : tie.Need-loop-init invariant-loop decreases-loop
+loop-holds : tie.Need-loop-k-init invariant-loop decreases-loop
 loop-holds c = (omega arith, refl, filled_none _ _)
 
-element-copy-out-out : tie.Need-element-copy-out-out invariant-loop decreases-loop
+element-copy-out-out : tie.Need-bounds-all-k invariant-loop decreases-loop
 element-copy-out-out c = search rules
 
-mul-out : tie.Need-overflow-mul-out invariant-loop decreases-loop
+mul-out : tie.Need-overflow_mul-out invariant-loop decreases-loop
 mul-out c = search rules
 
-array-write-out : tie.Need-array-write-out invariant-loop decreases-loop
+array-write-out : tie.Need-bounds-out-k invariant-loop decreases-loop
 array-write-out c = search rules
 
-add-out : tie.Need-overflow-add-out invariant-loop decreases-loop
+add-out : tie.Need-overflow_add-out invariant-loop decreases-loop
 add-out c = search rules
 
-element-copy-out-out-2 : tie.Need-element-copy-out-out-2 invariant-loop decreases-loop
+element-copy-out-out-2 : tie.Need-bounds-all-k-in-loop-k invariant-loop decreases-loop
 element-copy-out-out-2 c = search rules
 
-mul-out-2 : tie.Need-overflow-mul-out-2 invariant-loop decreases-loop
+mul-out-2 : tie.Need-overflow_mul-out-in-loop-k invariant-loop decreases-loop
 mul-out-2 c = search rules
 
-add-out-2 : tie.Need-overflow-add-out-2 invariant-loop decreases-loop
+add-out-2 : tie.Need-overflow_add-out-in-loop-k invariant-loop decreases-loop
 add-out-2 c = search rules
 
-array-write-out-2 : tie.Need-array-write-out-2 invariant-loop decreases-loop
+array-write-out-2 : tie.Need-bounds-out-k-in-loop-k invariant-loop decreases-loop
 array-write-out-2 c = search rules
 
-add-k : tie.Need-overflow-add-k invariant-loop decreases-loop
+add-k : tie.Need-overflow_add-k invariant-loop decreases-loop
 add-k c = search rules
 
-loop-less : tie.Need-loop-smaller invariant-loop decreases-loop
+loop-less : tie.Need-loop-k-smaller invariant-loop decreases-loop
 loop-less c = search rules
 
-loop-again : tie.Need-loop-preserved invariant-loop decreases-loop
+loop-again : tie.Need-loop-k-preserved invariant-loop decreases-loop
 loop-again c =
-    let lp = c.before.before.before.loop in
-    let all = c.before.before.before.before.args.all.now in (
+    let lp = c.loop-k in
+    let all = c.args.all.now in (
       omega arith,
       simp length-set lp.invariant.1,
       two-more (shuffled_at all) lp.k lp.out _ _ (omega arith) lp.invariant.2 (shuffled-even all lp.k) (shuffled-odd all lp.k),
@@ -61,12 +61,12 @@ loop-again c =
 
 returns : tie.Need-returns invariant-loop decreases-loop
 returns c =
-    let lp = c.before.loop in
+    let lp = c.loop-k in
     let e : lp.k ≡ 48 = omega arith in
     rw e at lp.invariant.2
 
-pub shuffled-spec : {M : Type 1} → statement M
-shuffled-spec =
+pub shuffled_spec : {M : Type 1} → statement M
+shuffled_spec =
     tie.close
     (tie.spec
     invariant-loop

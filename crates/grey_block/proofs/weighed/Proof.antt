@@ -10,56 +10,56 @@ use Rattle.rules.proofs.FilledLaws.{filled_none, filled_more}
 use Rattle.grey_block.proofs.weighed.Statement.{statement}
 use Rattle.grey_block.proofs.weighed.Tie as tie
 
-abbrev invariant-loop : tie.invariant-loop
+abbrev invariant-loop : tie.invariant-loop-k
 invariant-loop colours block₀ k₀ block k = (k ≤ 32) × (length block ≡ 32) × Filled (weighed_at colours) k block
 
-abbrev decreases-loop : tie.decreases-loop
+abbrev decreases-loop : tie.decreases-loop-k
 decreases-loop colours block₀ k₀ block k = 32 - k
 
-loop-holds : tie.Need-loop-init invariant-loop decreases-loop
+loop-holds : tie.Need-loop-k-init invariant-loop decreases-loop
 loop-holds c = (omega arith, refl, filled_none _ _)
 
-element-copy-out-grey-of : tie.Need-element-copy-out-grey-of invariant-loop decreases-loop
+element-copy-out-grey-of : tie.Need-bounds-colours-k invariant-loop decreases-loop
 element-copy-out-grey-of c = search rules
 
-add-grey-of : tie.Need-overflow-add-grey-of invariant-loop decreases-loop
+add-grey-of : tie.Need-overflow_add-k invariant-loop decreases-loop
 add-grey-of c = search rules
 
-element-copy-out-grey-of-2 : tie.Need-element-copy-out-grey-of-2 invariant-loop decreases-loop
+element-copy-out-grey-of-2 : tie.Need-bounds-colours-k-in-loop-k invariant-loop decreases-loop
 element-copy-out-grey-of-2 c = search rules
 
-add-grey-of-2 : tie.Need-overflow-add-grey-of-2 invariant-loop decreases-loop
+add-grey-of-2 : tie.Need-overflow_add-k-in-loop-k invariant-loop decreases-loop
 add-grey-of-2 c = search rules
 
-element-copy-out-grey-of-3 : tie.Need-element-copy-out-grey-of-3 invariant-loop decreases-loop
+element-copy-out-grey-of-3 : tie.Need-bounds-colours-k-in-loop-k-2 invariant-loop decreases-loop
 element-copy-out-grey-of-3 c = search rules
 
-grey-of-requires : tie.Need-grey-of-requires invariant-loop decreases-loop
+grey-of-requires : tie.Need-grey_of-requires invariant-loop decreases-loop
 grey-of-requires c κs = search rules
 
-array-write-block : tie.Need-array-write-block invariant-loop decreases-loop
+array-write-block : tie.Need-bounds-block-k invariant-loop decreases-loop
 array-write-block c = search rules
 
-add-k : tie.Need-overflow-add-k invariant-loop decreases-loop
+add-k : tie.Need-overflow_add-k-in-loop-k-2 invariant-loop decreases-loop
 add-k c = search rules
 
-loop-less : tie.Need-loop-smaller invariant-loop decreases-loop
+loop-less : tie.Need-loop-k-smaller invariant-loop decreases-loop
 loop-less c = search rules
 
-loop-again : tie.Need-loop-preserved invariant-loop decreases-loop
+loop-again : tie.Need-loop-k-preserved invariant-loop decreases-loop
 unfolding weighed_at
 loop-again c =
-    let lp = c.before.before.before.before.before.loop in
-    (omega arith, simp length-set lp.invariant.1, filled_more _ lp.k lp.block _ (omega arith) lp.invariant.2 c.grey-of.ensures)
+    let lp = c.loop-k in
+    (omega arith, simp length-set lp.invariant.1, filled_more _ lp.k lp.block _ (omega arith) lp.invariant.2 c.grey_of.ensures)
 
 returns : tie.Need-returns invariant-loop decreases-loop
 returns c =
-    let lp = c.before.loop in
+    let lp = c.loop-k in
     let e : lp.k ≡ 32 = omega arith in
     rw e at lp.invariant.2
 
-pub weighed-spec : {M : Type 1} → statement M
-weighed-spec =
+pub weighed_spec : {M : Type 1} → statement M
+weighed_spec =
     tie.close
     (tie.spec
     invariant-loop

@@ -20,10 +20,10 @@ second-requires : tie.Need-second-requires
 second-requires c κs = search rules
 
 returns : tie.Need-returns
-returns c = let a = c.before.before.before.before.before.args in cc (second-columns a.a a.b a.c a.d)
+returns c = let a = c.args in cc (second-columns a.a a.b a.c a.d)
 
-pub second-smallest-spec : {M : Type 1} → statement M
-second-smallest-spec =
+pub second_smallest_spec : {M : Type 1} → statement M
+second_smallest_spec =
     tie.close
     (tie.spec
     smaller-requires

@@ -13,38 +13,38 @@ use Rattle.rules.proofs.RefusalLaws.{halve-ok, written-refused, buffer-refused}
 use Rattle.halve.proofs.halve.Statement.{statement}
 use Rattle.halve.proofs.halve.Tie as tie
 
-halve-refusal-requires : tie.Need-halve-refusal-requires
+halve-refusal-requires : tie.Need-halve_refusal-n-requires
 halve-refusal-requires c κs = search rules
 
 -- the number asked for is the call's
-number_is : (c : tie.After-halve-refusal)
-    → let a = c.before.before.before.args in c.halve-refusal.result ≡ halve_refusal a.w a.h (length a.grey.now) (length a.out.now)
-number_is c = c.halve-refusal.ensures
+number_is : (c : tie.After-halve_refusal-n)
+    → let a = c.args in c.halve_refusal-n.result ≡ halve_refusal a.w a.h (length a.grey.now) (length a.out.now)
+number_is c = c.halve_refusal-n.ensures
 
-returns : tie.Need-returns
+returns : tie.Need-returns-then-n-ne0
 returns c =
     rw (← number_is c.before)
-    (record { answered = written-refused _ c.if1.true; filled = buffer-refused _ _ _ c.if1.true })
+    (record { answered = written-refused _ c.if-n-ne0.true; filled = buffer-refused _ _ _ c.if-n-ne0.true })
 
 -- what an accepted call knows of its sizes
-accepted : (c : tie.Else1)
-    → let a = c.before.before.before.before.args in HalveOk a.w a.h (length a.grey.now) (length a.out.now)
+accepted : (c : tie.Else-n-ne0)
+    → let a = c.args in HalveOk a.w a.h (length a.grey.now) (length a.out.now)
 accepted c =
-    let a = c.before.before.before.before.args in
-    halve-ok a.w a.h (length a.grey.now) (length a.out.now) (sym (number_is c.before) ∙ c.if1.false)
+    let a = c.args in
+    halve-ok a.w a.h (length a.grey.now) (length a.out.now) (sym (number_is c.before) ∙ c.if-n-ne0.false)
 
-halve-frame-requires : tie.Need-halve-frame-requires
+halve-frame-requires : tie.Need-halve_frame-requires
 halve-frame-requires c κs = omega (arith, accepted c.before)
 
-same_length : tie.Need-same-length
+same_length : tie.Need-shape_of-out
 same_length c = search rules
 
-returns-2 : tie.Need-returns-2
+returns-2 : tie.Need-returns
 returns-2 c =
     let done = c.before.before in
     let taken = done.before.before in
-    let a = taken.before.before.before.before.args in
-    let e = sym (number_is taken.before) ∙ taken.if1.false in
+    let a = taken.args in
+    let e = sym (number_is taken.before) ∙ taken.if-n-ne0.false in
     rw e (record {
       answered = refl;
       filled = frame-written
@@ -52,11 +52,11 @@ returns-2 c =
           (a.h / 2)
           (halved (frame_of a.w a.grey.now))
           a.out.now
-          done.halve-frame.new.1.1.1.0
+          done.halve_frame.new.1.1.1.0
           (accepted taken).room
-          done.halve-frame.ensures;
+          done.halve_frame.ensures;
     })
 
-pub halve-spec : {M : Type 1} → statement M
-halve-spec =
+pub halve_spec : {M : Type 1} → statement M
+halve_spec =
     tie.close (tie.spec halve-refusal-requires returns halve-frame-requires same_length returns-2)

@@ -5,21 +5,21 @@ use Rattle.histogram.proofs.CountLaws.{bumped}
 use Rattle.histogram.proofs.bump.Statement.{statement}
 use Rattle.histogram.proofs.bump.Tie as tie
 
-mul-table : tie.Need-overflow-mul-table
+mul-table : tie.Need-offset_bounds-table-k
 mul-table c = search rules
 
-element-copy-out-table : tie.Need-element-copy-out-table
+element-copy-out-table : tie.Need-bounds-table-k
 element-copy-out-table c = search rules
 
-add-table : tie.Need-overflow-add-table
+add-table : tie.Need-overflow_add-table
 add-table c = search rules
 
-element-write-table : tie.Need-element-write-table
+element-write-table : tie.Need-bounds-table-k-2
 element-write-table c = search rules
 
 returns : tie.Need-returns
-returns c = let s = c.before.requires.0 in bumped c.before.args.table.now c.before.args.value (omega arith)
+returns c = let s = c.requires.0 in bumped c.args.table.now c.args.value (omega arith)
 
-pub bump-spec : {M : Type 1} → statement M
-bump-spec =
+pub bump_spec : {M : Type 1} → statement M
+bump_spec =
     tie.close (tie.spec mul-table element-copy-out-table add-table element-write-table returns)

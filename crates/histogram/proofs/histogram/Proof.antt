@@ -11,29 +11,29 @@ use borrow.Author.Rules.{rules}
 use Rattle.histogram.proofs.histogram.Statement.{statement}
 use Rattle.histogram.proofs.histogram.Tie as tie
 
-count-fours-requires : tie.Need-count-fours-requires
-count-fours-requires c κs = (c.before.before.before.before.before.requires, tally-none _)
+count-fours-requires : tie.Need-count_fours-requires
+count-fours-requires c κs = (c.requires, tally-none _)
 
-sub-count-rest : tie.Need-overflow-sub-count-rest
+sub-count-rest : tie.Need-overflow_sub-grey
 sub-count-rest c = search rules
 
-count-rest-requires : tie.Need-count-rest-requires
+count-rest-requires : tie.Need-count_rest-requires
 count-rest-requires c κs =
-    let t = c.before.count-fours.ensures in
-    (omega arith, c.before.before.before.before.before.before.before.requires, t.sizes.0, λ v. omega (arith, t.counts v))
+    let t = c.count_fours.ensures in
+    (omega arith, c.requires, t.sizes.0, λ v. omega (arith, t.counts v))
 
 -- after the rest the four tables count the whole frame
-counted : (c : tie.After-count-rest) (v : ℕ)
-    → four c.count-rest.new.1.1.0
-    c.before.before.count-fours.new.1.1.0
-    c.before.before.count-fours.new.1.1.1.0
-    c.before.before.count-fours.new.1.1.1.1.0
+counted : (c : tie.After-count_rest) (v : ℕ)
+    → four c.count_rest.new.1.1.0
+    c.count_fours.new.1.1.0
+    c.count_fours.new.1.1.1.0
+    c.count_fours.new.1.1.1.1.0
     v
-    ≡ count_in c.before.before.before.before.before.before.before.before.args.grey.now v
+    ≡ count_in c.args.grey.now v
 counted c =
-    let f = c.before.before.count-fours in
+    let f = c.count_fours in
     let t = f.new.1 in
-    tally-rest _ _ t.0 t.1.0 t.1.1.0 t.1.1.1.0 c.count-rest.new.1.1.0 f.ensures c.count-rest.ensures.1
+    tally-rest _ _ t.0 t.1.0 t.1.1.0 t.1.1.1.0 c.count_rest.new.1.1.0 f.ensures c.count_rest.ensures.1
 
 merge-requires : tie.Need-merge-requires
 merge-requires c κs =
@@ -41,15 +41,15 @@ merge-requires c κs =
     let s = r.before.before.before.before.before.before.before.before in
     let l = s.args.grey.now in
     let p = s.requires in
-    (r.count-rest.ensures.0, λ v. omega (arith, counted r v, count-le l (length l) v))
+    (r.count_rest.ensures.0, λ v. omega (arith, counted r v, count-le l (length l) v))
 
 returns : tie.Need-returns
 returns c =
     let r = c.before.before.before.before.before in
     let k = r.before.before.before.before.before.before.before in
-    counts_of _ _ (λ v l. omega (arith, c.merge.ensures v l, counted r v)) (λ i l. (k.shared-slice-known.given i).fits)
+    counts_of _ _ (λ v l. omega (arith, c.merge.ensures v l, counted r v)) (λ i l. (k.shared_slice_known-1.given i).fits)
 
-pub histogram-spec : {M : Type 1} → statement M
-histogram-spec =
+pub histogram_spec : {M : Type 1} → statement M
+histogram_spec =
     tie.close
     (tie.spec count-fours-requires sub-count-rest count-rest-requires merge-requires returns)

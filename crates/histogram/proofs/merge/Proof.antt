@@ -12,75 +12,75 @@ use borrow.Author.Rules.{rules}
 use Rattle.histogram.proofs.merge.Statement.{statement}
 use Rattle.histogram.proofs.merge.Tie as tie
 
-abbrev invariant-loop : tie.invariant-loop
+abbrev invariant-loop : tie.invariant-loop-v
 invariant-loop a₀ b c d v₀ a v = (v ≤ 256) × RowAt 0 (four a₀ b c d) a₀ v a
 
-abbrev decreases-loop : tie.decreases-loop
+abbrev decreases-loop : tie.decreases-loop-v
 decreases-loop a₀ b c d v₀ a v = 256 - v
 
-loop-holds : tie.Need-loop-init invariant-loop decreases-loop
+loop-holds : tie.Need-loop-v-init invariant-loop decreases-loop
 loop-holds c = (omega arith, row-none 0 _ _)
 
 -- the place of the turn still holds what it held
-sum_is : (c : tie.At-loop invariant-loop decreases-loop)
-    → four c.loop.a c.before.args.b.now c.before.args.c.now c.before.args.d.now c.loop.v
-    ≡ four c.before.args.a.now c.before.args.b.now c.before.args.c.now c.before.args.d.now c.loop.v
-sum_is c = let h = c.loop.invariant.1.over c.loop.v (omega arith) in omega arith
+sum_is : (c : tie.At-loop-v invariant-loop decreases-loop)
+    → four c.loop-v.a c.args.b.now c.args.c.now c.args.d.now c.loop-v.v
+    ≡ four c.args.a.now c.args.b.now c.args.c.now c.args.d.now c.loop-v.v
+sum_is c = let h = c.loop-v.invariant.1.over c.loop-v.v (omega arith) in omega arith
 
 -- and the sum fits
-fits : (c : tie.At-loop invariant-loop decreases-loop)
-    → four c.loop.a c.before.args.b.now c.before.args.c.now c.before.args.d.now c.loop.v ≤ max_pixels
-fits c = omega (arith, sum_is c, c.before.requires.1 c.loop.v)
+fits : (c : tie.At-loop-v invariant-loop decreases-loop)
+    → four c.loop-v.a c.args.b.now c.args.c.now c.args.d.now c.loop-v.v ≤ max_pixels
+fits c = omega (arith, sum_is c, c.requires.1 c.loop-v.v)
 
-mul-a : tie.Need-overflow-mul-a invariant-loop decreases-loop
+mul-a : tie.Need-offset_bounds-a-v invariant-loop decreases-loop
 mul-a c = search rules
 
-element-copy-out-a : tie.Need-element-copy-out-a invariant-loop decreases-loop
+element-copy-out-a : tie.Need-bounds-a-v invariant-loop decreases-loop
 element-copy-out-a c = search rules
 
-mul-a-2 : tie.Need-overflow-mul-a-2 invariant-loop decreases-loop
+mul-a-2 : tie.Need-offset_bounds-b-v invariant-loop decreases-loop
 mul-a-2 c = search rules
 
-element-copy-out-a-2 : tie.Need-element-copy-out-a-2 invariant-loop decreases-loop
+element-copy-out-a-2 : tie.Need-bounds-b-v invariant-loop decreases-loop
 element-copy-out-a-2 c = search rules
 
-add_a : tie.Need-overflow-add-a invariant-loop decreases-loop
-add_a c = omega (arith, fits c.before.before.before)
+add_a : tie.Need-overflow_add-a invariant-loop decreases-loop
+add_a c = omega (arith, fits c.before.before.before.before.before)
 
-mul-a-3 : tie.Need-overflow-mul-a-3 invariant-loop decreases-loop
+mul-a-3 : tie.Need-offset_bounds-c-v invariant-loop decreases-loop
 mul-a-3 c = search rules
 
-element-copy-out-a-3 : tie.Need-element-copy-out-a-3 invariant-loop decreases-loop
+element-copy-out-a-3 : tie.Need-bounds-c-v invariant-loop decreases-loop
 element-copy-out-a-3 c = search rules
 
-add-a-2 : tie.Need-overflow-add-a-2 invariant-loop decreases-loop
-add-a-2 c = omega (arith, fits c.before.before.before.before)
+add-a-2 : tie.Need-overflow_add-a-in-loop-v invariant-loop decreases-loop
+add-a-2 c = omega (arith, fits c.before.before.before.before.before.before.before)
 
-mul-a-4 : tie.Need-overflow-mul-a-4 invariant-loop decreases-loop
+mul-a-4 : tie.Need-offset_bounds-d-v invariant-loop decreases-loop
 mul-a-4 c = search rules
 
-element-copy-out-a-4 : tie.Need-element-copy-out-a-4 invariant-loop decreases-loop
+element-copy-out-a-4 : tie.Need-bounds-d-v invariant-loop decreases-loop
 element-copy-out-a-4 c = search rules
 
-add-a-3 : tie.Need-overflow-add-a-3 invariant-loop decreases-loop
-add-a-3 c = omega (arith, fits c.before.before.before.before.before)
+add-a-3 : tie.Need-overflow_add-a-in-loop-v-2 invariant-loop decreases-loop
+add-a-3 c = omega (arith, fits c.before.before.before.before.before.before.before.before.before)
 
-mul-a-5 : tie.Need-overflow-mul-a-5 invariant-loop decreases-loop
+mul-a-5 : tie.Need-offset_bounds-a-v-in-loop-v invariant-loop decreases-loop
 mul-a-5 c = search rules
 
-element-write-a : tie.Need-element-write-a invariant-loop decreases-loop
+element-write-a : tie.Need-bounds-a-v-in-loop-v invariant-loop decreases-loop
 element-write-a c = search rules
 
-add-v : tie.Need-overflow-add-v invariant-loop decreases-loop
+add-v : tie.Need-overflow_add-v invariant-loop decreases-loop
 add-v c = search rules
 
-loop-less : tie.Need-loop-smaller invariant-loop decreases-loop
+loop-less : tie.Need-loop-v-smaller invariant-loop decreases-loop
 loop-less c = search rules
 
-loop-again : tie.Need-loop-preserved invariant-loop decreases-loop
+loop-again : tie.Need-loop-v-preserved invariant-loop decreases-loop
 loop-again c =
-    let p = c.before.before.before.before.before in
-    let L = p.loop in
+    let p = c.before.before.before.before.before.before.before.before.before in
+    let L = p.loop-v in
     let s = p.before in (
       omega arith,
       rw (zero-add L.v) at (row_more 0 _ s.args.a.now L.v L.a _ (let h = s.requires.0 in omega arith) L.invariant.1 (sum_is p)),
@@ -88,11 +88,11 @@ loop-again c =
 
 returns : tie.Need-returns invariant-loop decreases-loop
 returns c = λ v l.
-    let L = c.before.loop in
+    let L = c.loop-v in
     ap (λ (k : ℕ). get_or L.a k 0) (sym (zero-add v)) ∙ L.invariant.1.done v (omega arith)
 
-pub merge-spec : {M : Type 1} → statement M
-merge-spec =
+pub merge_spec : {M : Type 1} → statement M
+merge_spec =
     tie.close
     (tie.spec
     invariant-loop

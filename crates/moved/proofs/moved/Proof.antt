@@ -10,20 +10,20 @@ use Rattle.moved.proofs.SpanLaws.{moved-written, moved_ok}
 use Rattle.moved.proofs.moved.Statement.{statement}
 use Rattle.moved.proofs.moved.Tie as tie
 
-moved-refusal-requires : tie.Need-moved-refusal-requires
+moved-refusal-requires : tie.Need-moved_refusal-n-requires
 moved-refusal-requires c κs = search rules
 
-returns : tie.Need-returns
+returns : tie.Need-returns-then-n-ne0
 returns c =
-    rw (← c.before.moved-refusal.ensures)
-    (record { answered = written-refused _ c.if1.true; filled = buffer-refused _ _ _ c.if1.true })
+    rw (← c.moved_refusal-n.ensures)
+    (record { answered = written-refused _ c.if-n-ne0.true; filled = buffer-refused _ _ _ c.if-n-ne0.true })
 
 -- what an accepted call knows of its sizes
-accepted : (c : tie.Else1)
-    → let a = c.before.before.before.before.args in Sized a.w a.h (length a.raster.now) (length a.out.now)
+accepted : (c : tie.Else-n-ne0)
+    → let a = c.args in Sized a.w a.h (length a.raster.now) (length a.out.now)
 accepted c =
-    let a = c.before.before.before.before.args in
-    moved_ok a.w a.h (length a.raster.now) (length a.out.now) (sym c.before.moved-refusal.ensures ∙ c.if1.false)
+    let a = c.args in
+    moved_ok a.w a.h (length a.raster.now) (length a.out.now) (sym c.moved_refusal-n.ensures ∙ c.if-n-ne0.false)
 
 clip-requires : tie.Need-clip-requires
 clip-requires c κs = search rules
@@ -31,27 +31,27 @@ clip-requires c κs = search rules
 clip-requires-2 : tie.Need-clip-requires-2
 clip-requires-2 c κs = search rules
 
-place-rows-requires : tie.Need-place-rows-requires
-place-rows-requires c κs = (accepted c.before.before.before, (c.before.clip.ensures.inside, c.clip2.ensures.inside))
+place-rows-requires : tie.Need-place_rows-requires
+place-rows-requires c κs = (accepted c.before.before.before, (c.clip.ensures.inside, c.clip-2.ensures.inside))
 
-same_length : tie.Need-same-length
+same_length : tie.Need-shape_of-out
 same_length c = search rules
 
-returns-2 : tie.Need-returns-2
+returns-2 : tie.Need-returns
 returns-2 c =
     let done = c.before.before in
     let taken = done.before.before.before.before in
     let s = taken.before.before.before.before in
     let a = s.args in
-    let columns = subst (λ (d : ℤ). Clipped a.w d done.before.before.clip.result) (to_z-of_z s.ranges.dx) done.before.before.clip.ensures in
-    let lines = subst (λ (d : ℤ). Clipped a.h d done.before.clip2.result) (to_z-of_z s.ranges.dy) done.before.clip2.ensures in
-    rw (sym taken.before.moved-refusal.ensures ∙ taken.if1.false) (record {
+    let columns = subst (λ (d : ℤ). Clipped a.w d done.clip.result) (to_z-of_z s.ranges.dx) done.clip.ensures in
+    let lines = subst (λ (d : ℤ). Clipped a.h d done.clip-2.result) (to_z-of_z s.ranges.dy) done.clip-2.ensures in
+    rw (sym taken.moved_refusal-n.ensures ∙ taken.if-n-ne0.false) (record {
       answered = refl;
-      filled = moved-written a.w a.h a.dx a.dy a.raster.now a.out.now done.place-rows.new.1.0 _ _ columns lines (accepted taken).room done.place-rows.ensures;
+      filled = moved-written a.w a.h a.dx a.dy a.raster.now a.out.now done.place_rows.new.1.0 _ _ columns lines (accepted taken).room done.place_rows.ensures;
     })
 
-pub moved-spec : {M : Type 1} → statement M
-moved-spec =
+pub moved_spec : {M : Type 1} → statement M
+moved_spec =
     tie.close
     (tie.spec
     moved-refusal-requires

@@ -15,32 +15,32 @@ use Rattle.offsets.proofs.PairOffsetLaws.{turn-ready, next-ready, next-frame, wr
 use Rattle.offsets.proofs.frame_offsets.Statement.{statement}
 use Rattle.offsets.proofs.frame_offsets.Tie as tie
 
-abbrev invariant-loop : tie.invariant-loop
+abbrev invariant-loop : tie.invariant-loop-k
 invariant-loop pairs n r offsets₀ m₀ k₀ offsets m k =
     (k < n) × (m ≡ frame_offset (pair_offset pairs) r k) × (offsets ≡ written_over (offset_list k (frame_offset (pair_offset pairs) r)) offsets₀)
 
-abbrev decreases-loop : tie.decreases-loop
+abbrev decreases-loop : tie.decreases-loop-k
 decreases-loop pairs n r offsets₀ m₀ k₀ offsets m k = n - k
 
-from-first-requires : tie.Need-from-first-requires invariant-loop decreases-loop
+from-first-requires : tie.Need-from_first-sum-requires invariant-loop decreases-loop
 from-first-requires c κs = (omega arith, λ j l. c.requires.1.1.1 j (omega arith))
 
-turned-requires : tie.Need-turned-requires invariant-loop decreases-loop
+turned-requires : tie.Need-turned-m-requires invariant-loop decreases-loop
 turned-requires c κs =
     let a = c.before in
     turn-ready a.args.pairs.now a.args.r c.from_First.result (omega arith) (λ j l. a.requires.1.1.1 j (omega arith)) c.from_First.ensures
 
-loop-holds : tie.Need-loop-init invariant-loop decreases-loop
+loop-holds : tie.Need-loop-k-init invariant-loop decreases-loop
 unfolding offset_list
 loop-holds c =
     let a = c.before.before in
-    (omega arith, c.turned.ensures ∙ ap opposite c.before.from_First.ensures ∙ sym (frame-turned (pair_offset a.args.pairs.now) a.args.r), refl)
+    (omega arith, c.turned-m.ensures ∙ ap opposite c.before.from_First.ensures ∙ sym (frame-turned (pair_offset a.args.pairs.now) a.args.r), refl)
 
-add-loop : tie.Need-overflow-add-loop invariant-loop decreases-loop
+add-loop : tie.Need-overflow_add-k invariant-loop decreases-loop
 add-loop c = search rules
 
 -- There is room for frame k's offset; and once it is put there, one offset more is written.
-module _ (c : tie.At-loop invariant-loop decreases-loop) where
+module _ (c : tie.At-loop-k invariant-loop decreases-loop) where
   abbrev begun : tie.Start invariant-loop decreases-loop
   begun = c.before.before.before
 
@@ -50,54 +50,54 @@ module _ (c : tie.At-loop invariant-loop decreases-loop) where
   abbrev frames : ℕ → Offset
   frames = frame_offset (pair_offset begun.args.pairs.now) begun.args.r
 
-  ready : 2 * c.loop.k + 2 ≤ length c.loop.offsets
-  ready = put-ready frames lent c.loop.offsets c.loop.k c.loop.invariant.2 (omega arith)
+  ready : 2 * c.loop-k.k + 2 ≤ length c.loop-k.offsets
+  ready = put-ready frames lent c.loop-k.offsets c.loop-k.k c.loop-k.invariant.2 (omega arith)
 
-  written : (after : List ℤ) → after ≡ with_offset c.loop.k c.loop.m c.loop.offsets → after ≡ written_over (offset_list (c.loop.k + 1) frames) lent
-  written after put = put_next frames lent c.loop.offsets c.loop.k c.loop.invariant.2 (omega arith) c.loop.m after c.loop.invariant.1 put
+  written : (after : List ℤ) → after ≡ with_offset c.loop-k.k c.loop-k.m c.loop-k.offsets → after ≡ written_over (offset_list (c.loop-k.k + 1) frames) lent
+  written after put = put_next frames lent c.loop-k.offsets c.loop-k.k c.loop-k.invariant.2 (omega arith) c.loop-k.m after c.loop-k.invariant.1 put
 
-loop-again : tie.Need-loop-preserved invariant-loop decreases-loop
+loop-again : tie.Need-loop-k-preserved invariant-loop decreases-loop
 loop-again c =
     let i = c.before.before.before.before.before in
     let a = begun i in
-    let l = i.loop in (
+    let l = i.loop-k in (
       omega arith,
-      next-frame a.args.pairs.now a.args.r l.k l.m c.next-offset.result l.invariant.1 c.next-offset.ensures,
-      written i c.before.before.put-offset.new.0 c.before.before.put-offset.ensures,
+      next-frame a.args.pairs.now a.args.r l.k l.m c.next_offset-m.result l.invariant.1 c.next_offset-m.ensures,
+      written i c.put_offset.new.0 c.put_offset.ensures,
     )
 
-put-offset-requires : tie.Need-put-offset-requires invariant-loop decreases-loop
+put-offset-requires : tie.Need-put_offset-requires invariant-loop decreases-loop
 put-offset-requires c κs = let r = ready c.before.before in omega arith
 
-next-offset-requires : tie.Need-next-offset-requires invariant-loop decreases-loop
+next-offset-requires : tie.Need-next_offset-m-requires invariant-loop decreases-loop
 next-offset-requires c κs =
     let a = begun c.before.before.before.before in
-    let l = c.before.before.before.before.loop in
-    let near = next-ready a.args.pairs.now (a.args.n - 1) a.args.r l.k l.m (omega arith) a.pre.1.1.1 (omega arith) (omega arith) l.invariant.1 in
+    let l = c.loop-k in
+    let near = next-ready a.args.pairs.now (a.args.n - 1) a.args.r l.k l.m (omega arith) a.requires.1.1.1 (omega arith) (omega arith) l.invariant.1 in
     omega arith
 
-add-k : tie.Need-overflow-add-k invariant-loop decreases-loop
+add-k : tie.Need-overflow_add-k-in-loop-k invariant-loop decreases-loop
 add-k c = search rules
 
-loop-less : tie.Need-loop-smaller invariant-loop decreases-loop
+loop-less : tie.Need-loop-k-smaller invariant-loop decreases-loop
 loop-less c = search rules
 
-put-offset-requires-2 : tie.Need-put-offset-requires-2 invariant-loop decreases-loop
+put-offset-requires-2 : tie.Need-put_offset-requires-2 invariant-loop decreases-loop
 put-offset-requires-2 c κs = let r = ready c.before.before in omega arith
 
 returns : tie.Need-returns invariant-loop decreases-loop
 returns c =
     let i = c.before.before.before.before in
-    let e : i.loop.k + 1 ≡ (begun i).args.n = omega arith in
-    rw e at (written i c.before.put-offset2.new.0 c.before.put-offset2.ensures)
+    let e : i.loop-k.k + 1 ≡ (begun i).args.n = omega arith in
+    rw e at (written i c.put_offset-2.new.0 c.put_offset-2.ensures)
 
-same_length : tie.Need-same-length invariant-loop decreases-loop
+same_length : tie.Need-shape_of-offsets invariant-loop decreases-loop
 same_length c =
     let i = c.before.before.before.before in
     ap length (returns c) ∙ written-length (begun i).args.n (frames i) (lent i) (omega arith)
 
-pub frame-offsets-spec : {M : Type 1} → statement M
-frame-offsets-spec =
+pub frame_offsets_spec : {M : Type 1} → statement M
+frame_offsets_spec =
     tie.close
     (tie.spec
     invariant-loop

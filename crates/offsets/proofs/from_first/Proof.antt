@@ -10,38 +10,38 @@ use Rattle.offsets.proofs.PairOffsetLaws.{next-ready, next-frame}
 use Rattle.offsets.proofs.from_first.Statement.{statement}
 use Rattle.offsets.proofs.from_first.Tie as tie
 
-abbrev invariant-loop : tie.invariant-loop
+abbrev invariant-loop : tie.invariant-loop-k
 invariant-loop pairs r sum₀ k₀ sum k = (k ≤ r) × (sum ≡ frame_offset (pair_offset pairs) 0 k)
 
-abbrev decreases-loop : tie.decreases-loop
+abbrev decreases-loop : tie.decreases-loop-k
 decreases-loop pairs r sum₀ k₀ sum k = r - k
 
-loop-holds : tie.Need-loop-init invariant-loop decreases-loop
+loop-holds : tie.Need-loop-k-init invariant-loop decreases-loop
 loop-holds c = (omega arith, sym (frame_at (pair_offset c.args.pairs.now) 0))
 
-next-offset-requires : tie.Need-next-offset-requires invariant-loop decreases-loop
+next-offset-requires : tie.Need-next_offset-sum-requires invariant-loop decreases-loop
 next-offset-requires c κs =
     let a = c.before.before in
-    let l = c.before.loop in
+    let l = c.loop-k in
     (omega arith, next-ready a.args.pairs.now a.args.r 0 l.k l.sum (omega arith) a.requires.1 (omega arith) (omega arith) l.invariant.1)
 
-add-k : tie.Need-overflow-add-k invariant-loop decreases-loop
+add-k : tie.Need-overflow_add-k invariant-loop decreases-loop
 add-k c = search rules
 
-loop-less : tie.Need-loop-smaller invariant-loop decreases-loop
+loop-less : tie.Need-loop-k-smaller invariant-loop decreases-loop
 loop-less c = search rules
 
-loop-again : tie.Need-loop-preserved invariant-loop decreases-loop
+loop-again : tie.Need-loop-k-preserved invariant-loop decreases-loop
 loop-again c =
-    let l = c.before.before.loop in
-    (omega arith, next-frame c.before.before.before.args.pairs.now 0 l.k l.sum c.next-offset.result l.invariant.1 c.next-offset.ensures)
+    let l = c.loop-k in
+    (omega arith, next-frame c.args.pairs.now 0 l.k l.sum c.next_offset-sum.result l.invariant.1 c.next_offset-sum.ensures)
 
 returns : tie.Need-returns invariant-loop decreases-loop
 returns c =
-    let l = c.before.loop in
-    l.invariant.1 ∙ ap (frame_offset (pair_offset c.before.before.args.pairs.now) 0) (omega arith)
+    let l = c.loop-k in
+    l.invariant.1 ∙ ap (frame_offset (pair_offset c.args.pairs.now) 0) (omega arith)
 
-pub from-first-spec : {M : Type 1} → statement M
-from-first-spec =
+pub from_first_spec : {M : Type 1} → statement M
+from_first_spec =
     tie.close
     (tie.spec invariant-loop decreases-loop loop-holds next-offset-requires add-k loop-less loop-again returns)

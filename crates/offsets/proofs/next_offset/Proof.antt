@@ -19,30 +19,30 @@ far c = near-more max_frame_offset 2000000 c.args.m (omega arith) c.requires.1.0
 near : (c : tie.Start) → Near 2000000 (pair_offset c.args.pairs.now c.args.k)
 near c = near-more max_offset 2000000 (pair_offset c.args.pairs.now c.args.k) (omega arith) c.requires.1.1
 
-mul_at : tie.Need-overflow-mul-at
+mul_at : tie.Need-overflow_mul-at
 mul_at c = search rules
 
-mul-dx : tie.Need-overflow-mul-dx
+mul-dx : tie.Need-offset_bounds-pairs-at
 mul-dx c = search rules
 
-shared-slice-copy-out-dx : tie.Need-shared-slice-copy-out-dx
+shared-slice-copy-out-dx : tie.Need-bounds-pairs-at
 shared-slice-copy-out-dx c = search rules
 
-add-dx : tie.Need-overflow-add-dx
+add-dx : tie.Need-overflow_add-dx
 add-dx c =
     let a = c.before.before.before in
     sum-bits-fit a.args.m.dx (get_or a.args.pairs.now (2 * a.args.k) (pos 0)) (far a).dx (near a).dx
 
-add-dy : tie.Need-overflow-add-dy
+add-dy : tie.Need-overflow_add-dy
 add-dy c = search rules
 
-mul-dy : tie.Need-overflow-mul-dy
+mul-dy : tie.Need-offset_bounds-pairs-at-2
 mul-dy c = search rules
 
-shared-slice-copy-out-dy : tie.Need-shared-slice-copy-out-dy
+shared-slice-copy-out-dy : tie.Need-bounds-pairs-at-2
 shared-slice-copy-out-dy c = search rules
 
-add-dy-2 : tie.Need-overflow-add-dy-2
+add-dy-2 : tie.Need-overflow_add-dy-2
 add-dy-2 c =
     let a = c.before.before.before.before.before.before in
     sum-bits-fit a.args.m.dy (get_or a.args.pairs.now (2 * a.args.k + 1) (pos 0)) (far a).dy (near a).dy
@@ -56,8 +56,8 @@ returns c =
       dy = sum_is a.args.m.dy (get_or a.args.pairs.now (2 * a.args.k + 1) (pos 0)) (far a).dy n.dy i;
     }
 
-pub next-offset-spec : {M : Type 1} → statement M
-next-offset-spec =
+pub next_offset_spec : {M : Type 1} → statement M
+next_offset_spec =
     tie.close
     (tie.spec
     mul_at

@@ -19,10 +19,10 @@ near c = near-more max_frame_offset 2000000 c.args.m (omega arith) c.requires
 negative : (z : ℤ) → nat_abs z ≤ 2000000 → to_z w32 (of_z w32 (pos 0 -ℤ to_z w32 (of_z w32 z))) ≡ neg_ℤ z
 negative z l = difference-is (pos 0) z (omega arith) l ∙ +ℤ_idl (neg_ℤ z)
 
-sub-left : tie.Need-overflow-sub-left
-sub-left c = difference-bits-fit (pos 0) c.before.before.args.m.dx (omega arith) (near c.before.before).dx
+sub-left : tie.Need-overflow_sub-left
+sub-left c = difference-bits-fit (pos 0) c.args.m.dx (omega arith) (near c.before.before).dx
 
-sub-up : tie.Need-overflow-sub-up
+sub-up : tie.Need-overflow_sub-up
 sub-up c = let a = c.before.before.before.before in difference-bits-fit (pos 0) a.args.m.dy (omega arith) (near a).dy
 
 returns : tie.Need-returns
@@ -30,5 +30,5 @@ returns c =
     let a = c.before.before.before.before in
     λ i. record { dx = negative a.args.m.dx (near a).dx i; dy = negative a.args.m.dy (near a).dy i }
 
-pub turned-spec : {M : Type 1} → statement M
-turned-spec = tie.close (tie.spec sub-left sub-up returns)
+pub turned_spec : {M : Type 1} → statement M
+turned_spec = tie.close (tie.spec sub-left sub-up returns)

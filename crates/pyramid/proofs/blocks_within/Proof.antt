@@ -10,81 +10,81 @@ use Rattle.pyramid.proofs.WithinLaws.{block_within}
 use Rattle.pyramid.proofs.blocks_within.Statement.{statement}
 use Rattle.pyramid.proofs.blocks_within.Tie as tie
 
-abbrev invariant-loop : tie.invariant-loop
+abbrev invariant-loop : tie.invariant-loop-b
 invariant-loop grey₀ top bottom to n blocks b₀ grey b = (b ≤ blocks) × RowAt to (half_at grey₀ top bottom) grey₀ (32 * b) grey
 
-abbrev decreases-loop : tie.decreases-loop
+abbrev decreases-loop : tie.decreases-loop-b
 decreases-loop grey₀ top bottom to n blocks b₀ grey b = blocks - b
 
-loop-holds : tie.Need-loop-init invariant-loop decreases-loop
+loop-holds : tie.Need-loop-b-init invariant-loop decreases-loop
 loop-holds c = (omega arith, row-none _ _ _)
 
-mul-k : tie.Need-overflow-mul-k invariant-loop decreases-loop
+mul-k : tie.Need-overflow_mul-k invariant-loop decreases-loop
 mul-k c = search rules
 
-mul-seconds : tie.Need-overflow-mul-seconds invariant-loop decreases-loop
+mul-seconds : tie.Need-overflow_mul-k-in-loop-b invariant-loop decreases-loop
 mul-seconds c = search rules
 
-add-seconds : tie.Need-overflow-add-seconds invariant-loop decreases-loop
+add-seconds : tie.Need-overflow_add-top invariant-loop decreases-loop
 add-seconds c = search rules
 
-mul-seconds-2 : tie.Need-overflow-mul-seconds-2 invariant-loop decreases-loop
+mul-seconds-2 : tie.Need-overflow_mul-k-in-loop-b-2 invariant-loop decreases-loop
 mul-seconds-2 c = search rules
 
-add-seconds-2 : tie.Need-overflow-add-seconds-2 invariant-loop decreases-loop
+add-seconds-2 : tie.Need-overflow_add-bottom invariant-loop decreases-loop
 add-seconds-2 c = search rules
 
-seconds-requires : tie.Need-seconds-requires invariant-loop decreases-loop
+seconds-requires : tie.Need-seconds-all-requires invariant-loop decreases-loop
 seconds-requires c κs = search rules
 
-add-store-block : tie.Need-overflow-add-store-block invariant-loop decreases-loop
+add-store-block : tie.Need-overflow_add-to invariant-loop decreases-loop
 add-store-block c = search rules
 
-store-block-requires : tie.Need-store-block-requires invariant-loop decreases-loop
+store-block-requires : tie.Need-store_block-requires invariant-loop decreases-loop
 store-block-requires c κs = search rules
 
-add-b : tie.Need-overflow-add-b invariant-loop decreases-loop
+add-b : tie.Need-overflow_add-b invariant-loop decreases-loop
 add-b c = search rules
 
-loop-less : tie.Need-loop-smaller invariant-loop decreases-loop
+loop-less : tie.Need-loop-b-smaller invariant-loop decreases-loop
 loop-less c = search rules
 
-loop-again : tie.Need-loop-preserved invariant-loop decreases-loop
+loop-again : tie.Need-loop-b-preserved invariant-loop decreases-loop
 loop-again c =
     let stored = c.before.before in
     let made = stored.before.before.before in
-    let lp = made.before.before.before.loop in
+    let lp = made.loop-b in
     let start = made.before.before.before.before.before in
     let a = start.args in (
       omega arith,
       block_within
           a.grey.now
           lp.grey
-          stored.store-block.new.1.0
-          made.seconds.result
+          stored.store_block.new.1.0
+          made.seconds-all.result
           a.top
           a.bottom
           a.to
           a.n
           lp.b
           start.requires
-          made.before.before.loop-test.true
+          made.loop-b-test.true
           lp.invariant.1
-          made.seconds.ensures
-          stored.store-block.ensures,
+          made.seconds-all.ensures
+          stored.store_block.ensures,
     )
 
-same_length : tie.Need-same-length invariant-loop decreases-loop
+same_length : tie.Need-shape_of-grey invariant-loop decreases-loop
 same_length c = search rules
 
 returns : tie.Need-returns invariant-loop decreases-loop
 returns c =
-    let lp = c.before.loop in
-    let e : lp.b ≡ c.before.before.before.args.n / 32 = omega arith in
+    let lp = c.loop-b in
+    let e : lp.b ≡ c.args.n / 32 = omega arith in
     rw e at lp.invariant.1
 
-pub blocks-within-spec : {M : Type 1} → statement M
-blocks-within-spec =
+pub blocks_within_spec : {M : Type 1} → statement M
+blocks_within_spec =
     tie.close
     (tie.spec
     invariant-loop

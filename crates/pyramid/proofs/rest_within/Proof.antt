@@ -10,65 +10,65 @@ use Rattle.pyramid.proofs.WithinLaws.{half-under}
 use Rattle.pyramid.proofs.rest_within.Statement.{statement}
 use Rattle.pyramid.proofs.rest_within.Tie as tie
 
-abbrev invariant-loop : tie.invariant-loop
+abbrev invariant-loop : tie.invariant-loop-k
 invariant-loop grey₀ top bottom to n k₀ grey k = (k ≤ n) × RowAt to (half_at grey₀ top bottom) grey₀ k grey
 
-abbrev decreases-loop : tie.decreases-loop
+abbrev decreases-loop : tie.decreases-loop-k
 decreases-loop grey₀ top bottom to n k₀ grey k = n - k
 
-loop-holds : tie.Need-loop-init invariant-loop decreases-loop
+loop-holds : tie.Need-loop-k-init invariant-loop decreases-loop
 loop-holds c = (omega arith, row-none _ _ _)
 
-mul_left : tie.Need-overflow-mul-left invariant-loop decreases-loop
+mul_left : tie.Need-overflow_mul-left invariant-loop decreases-loop
 mul_left c = search rules
 
-add_right : tie.Need-overflow-add-right invariant-loop decreases-loop
+add_right : tie.Need-overflow_add-right invariant-loop decreases-loop
 add_right c = search rules
 
-add-second-smallest : tie.Need-overflow-add-second-smallest invariant-loop decreases-loop
+add-second-smallest : tie.Need-overflow_add-top invariant-loop decreases-loop
 add-second-smallest c = search rules
 
-slice-read-second-smallest : tie.Need-slice-read-second-smallest invariant-loop decreases-loop
+slice-read-second-smallest : tie.Need-bounds-grey-top invariant-loop decreases-loop
 slice-read-second-smallest c = search rules
 
-add-second-smallest-2 : tie.Need-overflow-add-second-smallest-2 invariant-loop decreases-loop
+add-second-smallest-2 : tie.Need-overflow_add-top-in-loop-k invariant-loop decreases-loop
 add-second-smallest-2 c = search rules
 
-slice-read-second-smallest-2 : tie.Need-slice-read-second-smallest-2 invariant-loop decreases-loop
+slice-read-second-smallest-2 : tie.Need-bounds-grey-top-in-loop-k invariant-loop decreases-loop
 slice-read-second-smallest-2 c = search rules
 
-add-second-smallest-3 : tie.Need-overflow-add-second-smallest-3 invariant-loop decreases-loop
+add-second-smallest-3 : tie.Need-overflow_add-bottom invariant-loop decreases-loop
 add-second-smallest-3 c = search rules
 
-slice-read-second-smallest-3 : tie.Need-slice-read-second-smallest-3 invariant-loop decreases-loop
+slice-read-second-smallest-3 : tie.Need-bounds-grey-bottom invariant-loop decreases-loop
 slice-read-second-smallest-3 c = search rules
 
-add-second-smallest-4 : tie.Need-overflow-add-second-smallest-4 invariant-loop decreases-loop
+add-second-smallest-4 : tie.Need-overflow_add-bottom-in-loop-k invariant-loop decreases-loop
 add-second-smallest-4 c = search rules
 
-slice-read-second-smallest-4 : tie.Need-slice-read-second-smallest-4 invariant-loop decreases-loop
+slice-read-second-smallest-4 : tie.Need-bounds-grey-bottom-in-loop-k invariant-loop decreases-loop
 slice-read-second-smallest-4 c = search rules
 
-second-smallest-requires : tie.Need-second-smallest-requires invariant-loop decreases-loop
+second-smallest-requires : tie.Need-second_smallest-requires invariant-loop decreases-loop
 second-smallest-requires c κs = search rules
 
-add-grey : tie.Need-overflow-add-grey invariant-loop decreases-loop
+add-grey : tie.Need-overflow_add-grey invariant-loop decreases-loop
 add-grey c = search rules
 
-slice-write-grey : tie.Need-slice-write-grey invariant-loop decreases-loop
+slice-write-grey : tie.Need-bounds-grey-to invariant-loop decreases-loop
 slice-write-grey c = search rules
 
-add-k : tie.Need-overflow-add-k invariant-loop decreases-loop
+add-k : tie.Need-overflow_add-k invariant-loop decreases-loop
 add-k c = search rules
 
-loop-less : tie.Need-loop-smaller invariant-loop decreases-loop
+loop-less : tie.Need-loop-k-smaller invariant-loop decreases-loop
 loop-less c = search rules
 
-loop-again : tie.Need-loop-preserved invariant-loop decreases-loop
+loop-again : tie.Need-loop-k-preserved invariant-loop decreases-loop
 unfolding half_at
 loop-again c =
-    let lp = c.before.before.before.before.before.before.loop in
-    let a = c.before.before.before.before.before.before.before.before.args in (
+    let lp = c.loop-k in
+    let a = c.args in (
       omega arith,
       row_more
           _
@@ -76,23 +76,23 @@ loop-again c =
           _
           lp.k
           lp.grey
-          c.second-smallest.result
+          c.second_smallest.result
           (omega arith)
           lp.invariant.1
-          (c.second-smallest.ensures ∙ half-under a.grey.now lp.grey a.to a.top a.bottom lp.k lp.invariant.1.under (omega arith) (omega arith)),
+          (c.second_smallest.ensures ∙ half-under a.grey.now lp.grey a.to a.top a.bottom lp.k lp.invariant.1.under (omega arith) (omega arith)),
     )
 
-same_length : tie.Need-same-length invariant-loop decreases-loop
+same_length : tie.Need-shape_of-grey invariant-loop decreases-loop
 same_length c = search rules
 
 returns : tie.Need-returns invariant-loop decreases-loop
 returns c =
-    let lp = c.before.loop in
-    let e : lp.k ≡ c.before.before.before.args.n = omega arith in
+    let lp = c.loop-k in
+    let e : lp.k ≡ c.args.n = omega arith in
     rw e at lp.invariant.1
 
-pub rest-within-spec : {M : Type 1} → statement M
-rest-within-spec =
+pub rest_within_spec : {M : Type 1} → statement M
+rest_within_spec =
     tie.close
     (tie.spec
     invariant-loop

@@ -6,34 +6,34 @@ use Rattle.pyramid.proofs.WithinLaws.{rest-within}
 use Rattle.pyramid.proofs.row_within.Statement.{statement}
 use Rattle.pyramid.proofs.row_within.Tie as tie
 
-blocks-within-requires : tie.Need-blocks-within-requires
+blocks-within-requires : tie.Need-blocks_within-requires
 blocks-within-requires c κs = search rules
 
-mul-k : tie.Need-overflow-mul-k
+mul-k : tie.Need-overflow_mul-k
 mul-k c = search rules
 
-mul-rest-within : tie.Need-overflow-mul-rest-within
+mul-rest-within : tie.Need-overflow_mul-k-2
 mul-rest-within c = search rules
 
-add-rest-within : tie.Need-overflow-add-rest-within
+add-rest-within : tie.Need-overflow_add-top
 add-rest-within c = search rules
 
-mul-rest-within-2 : tie.Need-overflow-mul-rest-within-2
+mul-rest-within-2 : tie.Need-overflow_mul-k-3
 mul-rest-within-2 c = search rules
 
-add-rest-within-2 : tie.Need-overflow-add-rest-within-2
+add-rest-within-2 : tie.Need-overflow_add-bottom
 add-rest-within-2 c = search rules
 
-add-rest-within-3 : tie.Need-overflow-add-rest-within-3
+add-rest-within-3 : tie.Need-overflow_add-to
 add-rest-within-3 c = search rules
 
-sub-rest-within : tie.Need-overflow-sub-rest-within
+sub-rest-within : tie.Need-overflow_sub-n
 sub-rest-within c = search rules
 
-rest-within-requires : tie.Need-rest-within-requires
+rest-within-requires : tie.Need-rest_within-requires
 rest-within-requires c κs = search rules
 
-same_length : tie.Need-same-length
+same_length : tie.Need-shape_of-grey
 same_length c = search rules
 
 returns : tie.Need-returns
@@ -44,8 +44,8 @@ returns c =
     let a = start.args in
     rest-within
     a.grey.now
-    blocks.blocks-within.new.0
-    rest.rest-within.new.0
+    blocks.blocks_within.new.0
+    rest.rest_within.new.0
     a.top
     a.bottom
     a.to
@@ -53,11 +53,11 @@ returns c =
     a.n
     start.requires
     (omega arith)
-    blocks.blocks-within.ensures
-    rest.rest-within.ensures
+    blocks.blocks_within.ensures
+    rest.rest_within.ensures
 
-pub row-within-spec : {M : Type 1} → statement M
-row-within-spec =
+pub row_within_spec : {M : Type 1} → statement M
+row_within_spec =
     tie.close
     (tie.spec
     blocks-within-requires

@@ -8,5 +8,5 @@ returns : tie.Need-returns
 unfolding bad_frames
 returns c = refl
 
-pub bad-frames-spec : {M : Type 1} → statement M
-bad-frames-spec = tie.close (tie.spec returns)
+pub bad_frames_spec : {M : Type 1} → statement M
+bad_frames_spec = tie.close (tie.spec returns)

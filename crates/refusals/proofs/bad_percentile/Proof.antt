@@ -8,5 +8,5 @@ returns : tie.Need-returns
 unfolding bad_percentile
 returns c = refl
 
-pub bad-percentile-spec : {M : Type 1} → statement M
-bad-percentile-spec = tie.close (tie.spec returns)
+pub bad_percentile_spec : {M : Type 1} → statement M
+bad_percentile_spec = tie.close (tie.spec returns)

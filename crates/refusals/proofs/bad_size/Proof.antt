@@ -8,5 +8,5 @@ returns : tie.Need-returns
 unfolding bad_size bad_side
 returns c = refl
 
-pub bad-size-spec : {M : Type 1} → statement M
-bad-size-spec = tie.close (tie.spec returns)
+pub bad_size_spec : {M : Type 1} → statement M
+bad_size_spec = tie.close (tie.spec returns)

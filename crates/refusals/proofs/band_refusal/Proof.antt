@@ -4,13 +4,13 @@ use Rattle.rules.specs.Refusals.{bad_band}
 use Rattle.refusals.proofs.band_refusal.Statement.{statement}
 use Rattle.refusals.proofs.band_refusal.Tie as tie
 
-returns : tie.Need-returns
+returns : tie.Need-returns-then-band-gt-MAX_BAND
 unfolding bad_band
-returns c = simp (lt-ltb _ _ c.if1.true)
+returns c = simp (lt-ltb _ _ c.if-band-gt-MAX_BAND.true)
 
-returns-2 : tie.Need-returns-2
+returns-2 : tie.Need-returns
 unfolding bad_band
-returns-2 c = simp (le-ltb _ _ c.if1.false)
+returns-2 c = simp (le-ltb _ _ c.if-band-gt-MAX_BAND.false)
 
-pub band-refusal-spec : {M : Type 1} → statement M
-band-refusal-spec = tie.close (tie.spec returns returns-2)
+pub band_refusal_spec : {M : Type 1} → statement M
+band_refusal_spec = tie.close (tie.spec returns returns-2)

@@ -21,8 +21,8 @@ returns c =
     let b = start.args.b in
     let near = start.requires in
     ap₂ ◌||◌
-    (c.before.before.before.apart.ensures ∙ apart-bits a.dx b.dx near.0.dx near.1.dx)
-    (c.apart2.ensures ∙ apart-bits a.dy b.dy near.0.dy near.1.dy)
+    (c.apart.ensures ∙ apart-bits a.dx b.dx near.0.dx near.1.dx)
+    (c.apart-2.ensures ∙ apart-bits a.dy b.dy near.0.dy near.1.dy)
 
-pub differing-spec : {M : Type 1} → statement M
-differing-spec = tie.close (tie.spec apart-requires apart-requires-2 returns)
+pub differing_spec : {M : Type 1} → statement M
+differing_spec = tie.close (tie.spec apart-requires apart-requires-2 returns)

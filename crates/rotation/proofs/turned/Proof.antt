@@ -19,7 +19,7 @@ differing-requires-4 c κs = search rules
 differing-requires-5 : tie.Need-differing-requires-5
 differing-requires-5 c κs = search rules
 
-differing-requires-6 : tie.Need-differing-requires-6
+differing-requires-6 : tie.Need-differing-from_c-requires
 differing-requires-6 c κs = search rules
 
 returns : tie.Need-returns
@@ -29,12 +29,12 @@ returns c =
     let three = d.before in
     let two = three.before in
     let one = two.before in
-    let a = one.before.args in
-    rw (one.differing.ensures, two.differing2.ensures, three.differing3.ensures, d.differing4.ensures, e.differing5.ensures, c.differing6.ensures)
+    let a = one.args in
+    rw (one.differing.ensures, two.differing-2.ensures, three.differing-3.ensures, d.differing-4.ensures, e.differing-5.ensures, c.differing-from_c.ensures)
     (four-turned a.a a.b a.c a.d)
 
-pub turned-spec : {M : Type 1} → statement M
-turned-spec =
+pub turned_spec : {M : Type 1} → statement M
+turned_spec =
     tie.close
     (tie.spec
     differing-requires

@@ -8,58 +8,58 @@ use Rattle.slide_words.proofs.SlideWordLaws.{rows_under, columns-under, columns-
 use Rattle.slide_words.proofs.slide_columns.Statement.{statement}
 use Rattle.slide_words.proofs.slide_columns.Tie as tie
 
-abbrev invariant-loop : tie.invariant-loop
+abbrev invariant-loop : tie.invariant-loop-k
 invariant-loop words₀ from m h to first end k₀ words k = (first ≤ k) × ((k ≤ end) × Columns to m.n (moved_rows words₀ from m) first k words₀ h words)
 
-abbrev decreases-loop : tie.decreases-loop
+abbrev decreases-loop : tie.decreases-loop-k
 decreases-loop words₀ from m h to first end k₀ words k = end - k
 
-loop-holds : tie.Need-loop-init invariant-loop decreases-loop
+loop-holds : tie.Need-loop-k-init invariant-loop decreases-loop
 loop-holds c = search rules
 
-slide-column-requires : tie.Need-slide-column-requires invariant-loop decreases-loop
+slide-column-requires : tie.Need-slide_column-requires invariant-loop decreases-loop
 slide-column-requires c κs =
     let test = c.before in
-    let p = test.before.before.before.requires in
-    let e = test.before.loop.invariant.1.1.len in
+    let p = test.requires in
+    let e = test.loop-k.invariant.1.1.len in
     (p.0, (omega arith, (omega arith, omega arith)))
 
-add-k : tie.Need-overflow-add-k invariant-loop decreases-loop
+add-k : tie.Need-overflow_add-k invariant-loop decreases-loop
 add-k c = search rules
 
-loop-less : tie.Need-loop-smaller invariant-loop decreases-loop
+loop-less : tie.Need-loop-k-smaller invariant-loop decreases-loop
 loop-less c = search rules
 
-loop-again : tie.Need-loop-preserved invariant-loop decreases-loop
+loop-again : tie.Need-loop-k-preserved invariant-loop decreases-loop
 loop-again c =
     let column = c.before.before in
     let test = column.before.before in
-    let L = test.before.loop in
+    let L = test.loop-k in
     let s = test.before.before.before in
     let a = s.args in (
       omega arith,
       (
         omega arith,
-        columns-more a.to a.m.n (moved_rows a.words.now a.from a.m) a.h a.first L.k a.words.now L.words column.slide-column.new.0 L.invariant.0 (omega arith)
+        columns-more a.to a.m.n (moved_rows a.words.now a.from a.m) a.h a.first L.k a.words.now L.words column.slide_column.new.0 L.invariant.0 (omega arith)
             L.invariant.1.1
-            (columns-same a.to a.m.n (moved_rows L.words a.from a.m) (moved_rows a.words.now a.from a.m) L.k (L.k + 1) L.words a.h column.slide-column.new.0
+            (columns-same a.to a.m.n (moved_rows L.words a.from a.m) (moved_rows a.words.now a.from a.m) L.k (L.k + 1) L.words a.h column.slide_column.new.0
             (λ k z l. rows_under a.words.now L.words a.from a.m a.h a.to k z s.requires.0.row s.requires.1.1.0 l
             (columns-under a.to a.m.n (moved_rows a.words.now a.from a.m) a.first L.k a.words.now a.h L.words L.invariant.1.1))
-            column.slide-column.ensures),
+            column.slide_column.ensures),
       ),
     )
 
-same_length : tie.Need-same-length invariant-loop decreases-loop
+same_length : tie.Need-shape_of-words invariant-loop decreases-loop
 same_length c = search rules
 
 returns : tie.Need-returns invariant-loop decreases-loop
 returns c =
-    let L = c.before.loop in
-    let e : L.k ≡ c.before.before.before.args.end = omega arith in
+    let L = c.loop-k in
+    let e : L.k ≡ c.args.end = omega arith in
     rw e at L.invariant.1.1
 
-pub slide-columns-spec : {M : Type 1} → statement M
-slide-columns-spec =
+pub slide_columns_spec : {M : Type 1} → statement M
+slide_columns_spec =
     tie.close
     (tie.spec
     invariant-loop

@@ -5,25 +5,25 @@ use Rattle.slide_words.proofs.SlideWordLaws.{run-interiors}
 use Rattle.slide_words.proofs.slide_interiors.Statement.{statement}
 use Rattle.slide_words.proofs.slide_interiors.Tie as tie
 
-returns : tie.Need-returns
+returns : tie.Need-returns-then-h-eq0
 returns c = search rules
 
-returns-2 : tie.Need-returns-2
+returns-2 : tie.Need-returns-then-m
 returns-2 c = search rules
 
-slide-run-requires : tie.Need-slide-run-requires
+slide-run-requires : tie.Need-slide_run-requires
 slide-run-requires c κs = search rules
 
-same_length : tie.Need-same-length
+same_length : tie.Need-shape_of-words
 same_length c = search rules
 
-returns-3 : tie.Need-returns-3
+returns-3 : tie.Need-returns
 returns-3 c =
     let s = c.before.before.before.before.before.before.before.before in
     let a = s.args in
-    let run = c.before.before.slide-run in
+    let run = c.slide_run in
     run-interiors a.words.now a.words.now run.new.0 a.from a.m a.h a.to s.requires.0 (omega (arith, s.requires.0)) (omega arith) run.ensures
 
-pub slide-interiors-spec : {M : Type 1} → statement M
-slide-interiors-spec =
+pub slide_interiors_spec : {M : Type 1} → statement M
+slide_interiors_spec =
     tie.close (tie.spec returns returns-2 slide-run-requires same_length returns-3)

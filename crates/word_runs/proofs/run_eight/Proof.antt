@@ -26,67 +26,67 @@ few c =
     let e = adds-le (keeps c) 0 a.k _ (run_kept-lt a.e1.now a.e2.now a.i a.x) c.requires.1.1.0.kept in
     (omega arith, omega arith)
 
-run-word-requires : tie.Need-run-word-requires
+run-word-requires : tie.Need-run_word-requires
 run-word-requires c κs = let s = c.before.before.before.before in (omega (arith, s.requires.0), s.requires.1.0)
 
-add-run-word : tie.Need-overflow-add-run-word
+add-run-word : tie.Need-overflow_add-k
 add-run-word c = omega (arith, near c.before.before.before.before.before)
 
-run-word-requires-2 : tie.Need-run-word-requires-2
+run-word-requires-2 : tie.Need-run_word-requires-2
 run-word-requires-2 c κs = let s = c.before.before.before.before.before in (omega (arith, s.requires.0), s.requires.1.0)
 
-add-run-word-2 : tie.Need-overflow-add-run-word-2
+add-run-word-2 : tie.Need-overflow_add-k-2
 add-run-word-2 c = omega (arith, near c.before.before.before.before.before.before)
 
-run-word-requires-3 : tie.Need-run-word-requires-3
+run-word-requires-3 : tie.Need-run_word-requires-3
 run-word-requires-3 c κs = let s = c.before.before.before.before.before.before in (omega (arith, s.requires.0), s.requires.1.0)
 
-add-run-word-3 : tie.Need-overflow-add-run-word-3
+add-run-word-3 : tie.Need-overflow_add-k-3
 add-run-word-3 c = omega (arith, near c.before.before.before.before.before.before.before)
 
-run-word-requires-4 : tie.Need-run-word-requires-4
+run-word-requires-4 : tie.Need-run_word-requires-4
 run-word-requires-4 c κs = let s = c.before.before.before.before.before.before.before in (omega (arith, s.requires.0), s.requires.1.0)
 
-add-run-word-4 : tie.Need-overflow-add-run-word-4
+add-run-word-4 : tie.Need-overflow_add-k-4
 add-run-word-4 c = omega (arith, near c.before.before.before.before.before.before.before.before)
 
-run-word-requires-5 : tie.Need-run-word-requires-5
+run-word-requires-5 : tie.Need-run_word-requires-5
 run-word-requires-5 c κs = let s = c.before.before.before.before.before.before.before.before in (omega (arith, s.requires.0), s.requires.1.0)
 
-add-run-word-5 : tie.Need-overflow-add-run-word-5
+add-run-word-5 : tie.Need-overflow_add-k-5
 add-run-word-5 c = omega (arith, near c.before.before.before.before.before.before.before.before.before)
 
-run-word-requires-6 : tie.Need-run-word-requires-6
+run-word-requires-6 : tie.Need-run_word-requires-6
 run-word-requires-6 c κs = let s = c.before.before.before.before.before.before.before.before.before in (omega (arith, s.requires.0), s.requires.1.0)
 
-add-run-word-6 : tie.Need-overflow-add-run-word-6
+add-run-word-6 : tie.Need-overflow_add-k-6
 add-run-word-6 c = omega (arith, near c.before.before.before.before.before.before.before.before.before.before)
 
-run-word-requires-7 : tie.Need-run-word-requires-7
+run-word-requires-7 : tie.Need-run_word-requires-7
 run-word-requires-7 c κs = let s = c.before.before.before.before.before.before.before.before.before.before in (omega (arith, s.requires.0), s.requires.1.0)
 
-add-run-word-7 : tie.Need-overflow-add-run-word-7
+add-run-word-7 : tie.Need-overflow_add-k-7
 add-run-word-7 c = omega (arith, near c.before.before.before.before.before.before.before.before.before.before.before)
 
-run-word-requires-8 : tie.Need-run-word-requires-8
+run-word-requires-8 : tie.Need-run_word-requires-8
 run-word-requires-8 c κs = let s = c.before.before.before.before.before.before.before.before.before.before.before in (omega (arith, s.requires.0), s.requires.1.0)
 
-tally-eight-requires : tie.Need-tally-eight-requires
+tally-eight-requires : tie.Need-tally_eight-requires
 tally-eight-requires c κs = let s = c.before.before.before.before.before.before.before.before.before.before.before.before in (s.requires.1.1.1, few s)
 
 returns : tie.Need-returns
 returns c =
     let s = c.before.before.before.before.before.before.before.before.before.before.before.before.before in
     let k = s.args.k in
-    let w1 = c.before.before.before.before.before.before.before.before.run-word in
-    let w2 = c.before.before.before.before.before.before.before.run-word2 in
-    let w3 = c.before.before.before.before.before.before.run-word3 in
-    let w4 = c.before.before.before.before.before.run-word4 in
-    let w5 = c.before.before.before.before.run-word5 in
-    let w6 = c.before.before.before.run-word6 in
-    let w7 = c.before.before.run-word7 in
-    let w8 = c.before.run-word8 in
-    let t = c.tally-eight.ensures in
+    let w1 = c.run_word in
+    let w2 = c.run_word-2 in
+    let w3 = c.run_word-3 in
+    let w4 = c.run_word-4 in
+    let w5 = c.run_word-5 in
+    let w6 = c.run_word-6 in
+    let w7 = c.run_word-7 in
+    let w8 = c.run_word-8 in
+    let t = c.tally_eight.ensures in
     let d = eight-adds (differs s) k w1.result.differing w2.result.differing w3.result.differing w4.result.differing w5.result.differing w6.result.differing w7.result.differing w8.result.differing _
     w1.ensures.0 w2.ensures.0 w3.ensures.0 w4.ensures.0 w5.ensures.0 w6.ensures.0 w7.ensures.0 w8.ensures.0 refl in
     let e = eight-adds (keeps s) k w1.result.kept w2.result.kept w3.result.kept w4.result.kept w5.result.kept w6.result.kept w7.result.kept w8.result.kept _
@@ -96,8 +96,8 @@ returns c =
       kept = rw t.1 (adds-more (keeps s) 0 k (k + 8) _ _ s.requires.1.1.0.kept e);
     }
 
-pub run-eight-spec : {M : Type 1} → statement M
-run-eight-spec =
+pub run_eight_spec : {M : Type 1} → statement M
+run_eight_spec =
     tie.close
     (tie.spec
     run-word-requires

@@ -17,16 +17,16 @@ use Rattle.words.proofs.biased.Tie as tie
 read : (d : ℤ) → SFits w32 d → to_z w64 (of_z w64 (to_z w64 (of_z w64 (to_z w32 (of_z w32 d))) +ℤ pos bias)) ≡ pos (bias_of d)
 read d b = ap (λ (z : ℤ). to_z w64 (of_z w64 z)) (wide-sum d b) ∙ to_z-of_z (bias-fits d b)
 
-cast-result : tie.Need-overflow-cast-result
+cast-result : tie.Need-overflow_cast-result
 cast-result c = wide_fits c.args.d c.ranges.d
 
-cast-result-2 : tie.Need-overflow-cast-result-2
+cast-result-2 : tie.Need-overflow_cast-result-2
 cast-result-2 c = search rules
 
-add-result : tie.Need-overflow-add-result
+add-result : tie.Need-overflow_add-result
 add-result c = subst (SFits w64) (sym (wide-sum c.args.d c.ranges.d)) (bias-fits c.args.d c.ranges.d)
 
-cast-result-3 : tie.Need-overflow-cast-result-3
+cast-result-3 : tie.Need-overflow_cast-result-3
 cast-result-3 c =
     let l = bias-lt c.args.d c.ranges.d in
     subst (λ (z : ℤ). T (non_neg z) × Fits w64 (nat_abs z)) (sym (read c.args.d c.ranges.d)) (tt, omega arith)
@@ -34,5 +34,5 @@ cast-result-3 c =
 returns : tie.Need-returns
 returns c = ap nat_abs (read c.args.d c.ranges.d)
 
-pub biased-spec : {M : Type 1} → statement M
-biased-spec = tie.close (tie.spec cast-result cast-result-2 add-result cast-result-3 returns)
+pub biased_spec : {M : Type 1} → statement M
+biased_spec = tie.close (tie.spec cast-result cast-result-2 add-result cast-result-3 returns)

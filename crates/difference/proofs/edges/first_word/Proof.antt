@@ -11,40 +11,40 @@ use Rattle.differing.proofs.DifferLaws.{differ-adds}
 use Rattle.difference.proofs.edges.first_word.Statement.{statement}
 use Rattle.difference.proofs.edges.first_word.Tie as tie
 
-add-i : tie.Need-overflow-add-i
+add-i : tie.Need-overflow_add-i
 add-i c = search rules
 
-mul-kept : tie.Need-overflow-mul-kept
+mul-kept : tie.Need-offset_bounds-e1-i
 mul-kept c = search rules
 
-shared-slice-read-kept : tie.Need-shared-slice-read-kept
-shared-slice-read-kept c = omega (arith, full-le c.before.before.before.before.before.args.m.w)
+shared-slice-read-kept : tie.Need-bounds-e1-i
+shared-slice-read-kept c = omega (arith, full-le c.args.m.w)
 
-mul-kept-2 : tie.Need-overflow-mul-kept-2
+mul-kept-2 : tie.Need-offset_bounds-e2-from
 mul-kept-2 c = search rules
 
-shared-slice-read-kept-2 : tie.Need-shared-slice-read-kept-2
-shared-slice-read-kept-2 c = omega (arith, full-le c.before.before.before.before.before.before.args.m.w)
+shared-slice-read-kept-2 : tie.Need-bounds-e2-from
+shared-slice-read-kept-2 c = omega (arith, full-le c.args.m.w)
 
-shl-kept : tie.Need-overflow-shl-kept
+shl-kept : tie.Need-overflow_shl-kept
 shl-kept c = search rules
 
-mul-differing : tie.Need-overflow-mul-differing
+mul-differing : tie.Need-offset_bounds-t1-i
 mul-differing c = search rules
 
-shared-slice-read-differing : tie.Need-shared-slice-read-differing
-shared-slice-read-differing c = omega (arith, full-le c.before.before.before.before.before.before.before.args.m.w)
+shared-slice-read-differing : tie.Need-bounds-t1-i
+shared-slice-read-differing c = omega (arith, full-le c.args.m.w)
 
-mul-differing-2 : tie.Need-overflow-mul-differing-2
+mul-differing-2 : tie.Need-offset_bounds-t2-from
 mul-differing-2 c = search rules
 
-shared-slice-read-differing-2 : tie.Need-shared-slice-read-differing-2
-shared-slice-read-differing-2 c = omega (arith, full-le c.before.before.before.before.before.before.before.before.args.m.w)
+shared-slice-read-differing-2 : tie.Need-bounds-t2-from
+shared-slice-read-differing-2 c = omega (arith, full-le c.args.m.w)
 
-shl-differing : tie.Need-overflow-shl-differing
+shl-differing : tie.Need-overflow_shl-differing
 shl-differing c = search rules
 
-word-tally-requires : tie.Need-word-tally-requires
+word-tally-requires : tie.Need-word_tally-requires
 word-tally-requires c κs = search rules
 
 returns : tie.Need-returns
@@ -59,10 +59,10 @@ returns c =
     let t = first-moved a.t2.now a.from a.m.w a.m.q a.m.r a.k s.requires.1.0.0 (omega (arith, s.requires.1.0.1)) in
     differ-adds a.t1.now a.e1.now a.t2.now a.e2.now a.base a.from a.m.w d a.k (bit_and k1 k2)
     (kept_word a.e1.now a.e2.now a.base a.from a.m.w d a.k k1 k2 (row-whole a.e1.now a.base a.m.w a.k (omega (arith, s.requires.1.0.1))) (λ i l m. e i l))
-    u2 c.word-tally.result (λ i l m n. t i l) c.word-tally.ensures
+    u2 c.word_tally.result (λ i l m n. t i l) c.word_tally.ensures
 
-pub first-word-spec : {M : Type 1} → statement M
-first-word-spec =
+pub first_word_spec : {M : Type 1} → statement M
+first_word_spec =
     tie.close
     (tie.spec
     add-i

@@ -4,7 +4,7 @@ use borrow.Author.Rules.{rules}
 use Rattle.difference.proofs.edges.words_before.Statement.{statement}
 use Rattle.difference.proofs.edges.words_before.Tie as tie
 
-edge-words-requires : tie.Need-edge-words-requires
+edge-words-requires : tie.Need-edge_words-requires
 edge-words-requires c κs =
     let s = c.before.before.before.before in
     (s.requires.0, ((omega arith, omega (arith, s.requires.0)), (s.requires.1.0, s.requires.1.1)))
@@ -12,5 +12,5 @@ edge-words-requires c κs =
 returns : tie.Need-returns
 returns c = search rules
 
-pub words-before-spec : {M : Type 1} → statement M
-words-before-spec = tie.close (tie.spec edge-words-requires returns)
+pub words_before_spec : {M : Type 1} → statement M
+words_before_spec = tie.close (tie.spec edge-words-requires returns)

@@ -11,56 +11,56 @@ use Rattle.differing.proofs.DifferLaws.{moved_tally-le}
 use Rattle.difference.proofs.interior.interior_blocks.Statement.{statement}
 use Rattle.difference.proofs.interior.interior_blocks.Tie as tie
 
-abbrev invariant-loop : tie.invariant-loop
+abbrev invariant-loop : tie.invariant-loop-k
 invariant-loop t1 e1 t2 e2 base from m table both₀ k₀ rest both k = (m.first ≤ k) × ((k ≤ m.rest) × (((m.rest - k) % 7 ≡ 0) × Adds (moved_tally t1 e1 t2 e2 base from m) m.first k both))
 
-abbrev decreases-loop : tie.decreases-loop
+abbrev decreases-loop : tie.decreases-loop-k
 decreases-loop t1 e1 t2 e2 base from m table both₀ k₀ rest both k = m.rest - k
 
 abbrev row : tie.Start invariant-loop decreases-loop → ℕ → ℕ
 row c = let a = c.args in moved_tally a.t1.now a.e1.now a.t2.now a.e2.now a.base a.from a.m
 
-loop-holds : tie.Need-loop-init invariant-loop decreases-loop
+loop-holds : tie.Need-loop-k-init invariant-loop decreases-loop
 loop-holds c = let s = c.before.before.before.before in (omega arith, (s.requires.0.sevens.0, (s.requires.0.sevens.1, adds_none (row s) s.args.m.first)))
 
-interior-block-requires : tie.Need-interior-block-requires invariant-loop decreases-loop
+interior-block-requires : tie.Need-interior_block-both-requires invariant-loop decreases-loop
 interior-block-requires c κs =
     let s = c.before.before.before.before.before.before in
-    (s.requires.0, ((c.before.loop.invariant.0, omega (arith, s.requires.0)), (s.requires.1.0, s.requires.1.1)))
+    (s.requires.0, ((c.loop-k.invariant.0, omega (arith, s.requires.0)), (s.requires.1.0, s.requires.1.1)))
 
-add-both : tie.Need-overflow-add-both invariant-loop decreases-loop
+add-both : tie.Need-overflow_add-both invariant-loop decreases-loop
 add-both c =
     let s = c.before.before.before.before.before.before.before in
     let a = s.args in
-    let l = c.before.before.loop in
+    let l = c.loop-k in
     omega (
       arith,
       s,
       row-words-le a.m.w s.requires.0.width,
-      tally-next-le (row s) s.args.m.first l.k (l.k + 7) l.both c.interior-block.result
-          (moved_tally-le a.t1.now a.e1.now a.t2.now a.e2.now a.base a.from a.m) l.invariant.1.1.1 c.interior-block.ensures,
+      tally-next-le (row s) s.args.m.first l.k (l.k + 7) l.both c.interior_block-both.result
+          (moved_tally-le a.t1.now a.e1.now a.t2.now a.e2.now a.base a.from a.m) l.invariant.1.1.1 c.interior_block-both.ensures,
     )
 
-add-k : tie.Need-overflow-add-k invariant-loop decreases-loop
+add-k : tie.Need-overflow_add-k invariant-loop decreases-loop
 add-k c = search rules
 
-loop-less : tie.Need-loop-smaller invariant-loop decreases-loop
+loop-less : tie.Need-loop-k-smaller invariant-loop decreases-loop
 loop-less c = search rules
 
-loop-again : tie.Need-loop-preserved invariant-loop decreases-loop
+loop-again : tie.Need-loop-k-preserved invariant-loop decreases-loop
 loop-again c =
     let s = c.before.before.before.before.before.before.before in
-    let l = c.before.before.loop in
-    (omega arith, (omega arith, (omega arith, adds-more (row s) s.args.m.first l.k (l.k + 7) l.both c.interior-block.result l.invariant.1.1.1 c.interior-block.ensures)))
+    let l = c.loop-k in
+    (omega arith, (omega arith, (omega arith, adds-more (row s) s.args.m.first l.k (l.k + 7) l.both c.interior_block-both.result l.invariant.1.1.1 c.interior_block-both.ensures)))
 
 returns : tie.Need-returns invariant-loop decreases-loop
 returns c =
-    let l = c.before.loop in
-    let e : l.k ≡ c.before.before.before.before.before.before.args.m.rest = omega arith in
+    let l = c.loop-k in
+    let e : l.k ≡ c.args.m.rest = omega arith in
     rw e at l.invariant.1.1.1
 
-pub interior-blocks-spec : {M : Type 1} → statement M
-interior-blocks-spec =
+pub interior_blocks_spec : {M : Type 1} → statement M
+interior_blocks_spec =
     tie.close
     (tie.spec
     invariant-loop

@@ -11,56 +11,56 @@ use Rattle.differing.proofs.DifferLaws.{moved_tally-le}
 use Rattle.difference.proofs.interior.interior_rest.Statement.{statement}
 use Rattle.difference.proofs.interior.interior_rest.Tie as tie
 
-abbrev invariant-loop : tie.invariant-loop
+abbrev invariant-loop : tie.invariant-loop-k
 invariant-loop t1 e1 t2 e2 base from m table both₀ k₀ end both k = (m.rest ≤ k) × ((k ≤ m.end) × Adds (moved_tally t1 e1 t2 e2 base from m) m.rest k both)
 
-abbrev decreases-loop : tie.decreases-loop
+abbrev decreases-loop : tie.decreases-loop-k
 decreases-loop t1 e1 t2 e2 base from m table both₀ k₀ end both k = m.end - k
 
 abbrev row : tie.Start invariant-loop decreases-loop → ℕ → ℕ
 row c = let a = c.args in moved_tally a.t1.now a.e1.now a.t2.now a.e2.now a.base a.from a.m
 
-loop-holds : tie.Need-loop-init invariant-loop decreases-loop
+loop-holds : tie.Need-loop-k-init invariant-loop decreases-loop
 loop-holds c = let s = c.before.before.before.before in (omega arith, (s.requires.0.rests, adds_none (row s) s.args.m.rest))
 
-interior-word-requires : tie.Need-interior-word-requires invariant-loop decreases-loop
+interior-word-requires : tie.Need-interior_word-both-requires invariant-loop decreases-loop
 interior-word-requires c κs =
     let s = c.before.before.before.before.before.before in
-    (s.requires.0, ((omega (arith, s.requires.0), c.loop-test.true), (s.requires.1.0, s.requires.1.1)))
+    (s.requires.0, ((omega (arith, s.requires.0), c.loop-k-test.true), (s.requires.1.0, s.requires.1.1)))
 
-add-both : tie.Need-overflow-add-both invariant-loop decreases-loop
+add-both : tie.Need-overflow_add-both invariant-loop decreases-loop
 add-both c =
     let s = c.before.before.before.before.before.before.before in
     let a = s.args in
-    let l = c.before.before.loop in
+    let l = c.loop-k in
     omega (
       arith,
       s,
       row-words-le a.m.w s.requires.0.width,
-      tally-next-le (row s) s.args.m.rest l.k (l.k + 1) l.both c.interior-word.result
-          (moved_tally-le a.t1.now a.e1.now a.t2.now a.e2.now a.base a.from a.m) l.invariant.1.1 c.interior-word.ensures,
+      tally-next-le (row s) s.args.m.rest l.k (l.k + 1) l.both c.interior_word-both.result
+          (moved_tally-le a.t1.now a.e1.now a.t2.now a.e2.now a.base a.from a.m) l.invariant.1.1 c.interior_word-both.ensures,
     )
 
-add-k : tie.Need-overflow-add-k invariant-loop decreases-loop
+add-k : tie.Need-overflow_add-k invariant-loop decreases-loop
 add-k c = search rules
 
-loop-less : tie.Need-loop-smaller invariant-loop decreases-loop
+loop-less : tie.Need-loop-k-smaller invariant-loop decreases-loop
 loop-less c = search rules
 
-loop-again : tie.Need-loop-preserved invariant-loop decreases-loop
+loop-again : tie.Need-loop-k-preserved invariant-loop decreases-loop
 loop-again c =
     let s = c.before.before.before.before.before.before.before in
-    let l = c.before.before.loop in
-    (omega arith, (omega arith, adds-more (row s) s.args.m.rest l.k (l.k + 1) l.both c.interior-word.result l.invariant.1.1 c.interior-word.ensures))
+    let l = c.loop-k in
+    (omega arith, (omega arith, adds-more (row s) s.args.m.rest l.k (l.k + 1) l.both c.interior_word-both.result l.invariant.1.1 c.interior_word-both.ensures))
 
 returns : tie.Need-returns invariant-loop decreases-loop
 returns c =
-    let l = c.before.loop in
-    let e : l.k ≡ c.before.before.before.before.before.before.args.m.end = omega arith in
+    let l = c.loop-k in
+    let e : l.k ≡ c.args.m.end = omega arith in
     rw e at l.invariant.1.1
 
-pub interior-rest-spec : {M : Type 1} → statement M
-interior-rest-spec =
+pub interior_rest_spec : {M : Type 1} → statement M
+interior_rest_spec =
     tie.close
     (tie.spec
     invariant-loop

@@ -5,15 +5,15 @@ use borrow.Author.Rules.{rules}
 use Rattle.gather.proofs.turning.exchange.Statement.{statement}
 use Rattle.gather.proofs.turning.exchange.Tie as tie
 
-shr-t : tie.Need-overflow-shr-t
+shr-t : tie.Need-overflow_shr-t
 shr-t c = search rules
 
-shl-result : tie.Need-overflow-shl-result
+shl-result : tie.Need-overflow_shl-result
 shl-result c = search rules
 
 returns : tie.Need-returns
 unfolding exchanged
 returns c = refl
 
-pub exchange-spec : {M : Type 1} → statement M
-exchange-spec = tie.close (tie.spec shr-t shl-result returns)
+pub exchange_spec : {M : Type 1} → statement M
+exchange_spec = tie.close (tie.spec shr-t shl-result returns)

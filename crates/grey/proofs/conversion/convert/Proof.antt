@@ -6,46 +6,46 @@ use Rattle.grey.proofs.ConversionLaws.{grey-rest}
 use Rattle.grey.proofs.conversion.convert.Statement.{statement}
 use Rattle.grey.proofs.conversion.convert.Tie as tie
 
-convert-blocks-requires : tie.Need-convert-blocks-requires
+convert-blocks-requires : tie.Need-convert_blocks-requires
 convert-blocks-requires c κs = search rules
 
-mul-k : tie.Need-overflow-mul-k
+mul-k : tie.Need-overflow_mul-k
 mul-k c = search rules
 
-mul-convert-rest : tie.Need-overflow-mul-convert-rest
+mul-convert-rest : tie.Need-overflow_mul-k-2
 mul-convert-rest c = search rules
 
-sub-convert-rest : tie.Need-overflow-sub-convert-rest
+sub-convert-rest : tie.Need-overflow_sub-n
 sub-convert-rest c = search rules
 
-add-convert-rest : tie.Need-overflow-add-convert-rest
+add-convert-rest : tie.Need-overflow_add-to
 add-convert-rest c = search rules
 
-convert-rest-requires : tie.Need-convert-rest-requires
+convert-rest-requires : tie.Need-convert_rest-requires
 convert-rest-requires c κs = search rules
 
-same_length : tie.Need-same-length
+same_length : tie.Need-shape_of-grey
 same_length c = search rules
 
 returns : tie.Need-returns
 returns c =
     let rest = c.before.before in
     let blocks = rest.before.before.before.before in
-    let a = blocks.before.before.before.before.args in
+    let a = blocks.args in
     grey-rest
     a.raster.now
     a.grey.now
-    blocks.convert-blocks.new.1.1.0
-    rest.convert-rest.new.1.1.1.0
+    blocks.convert_blocks.new.1.1.0
+    rest.convert_rest.new.1.1.1.0
     a.to
     (32 * (a.n / 32))
     a.n
     (omega arith)
-    blocks.convert-blocks.ensures
-    rest.convert-rest.ensures
+    blocks.convert_blocks.ensures
+    rest.convert_rest.ensures
 
-pub convert-spec : {M : Type 1} → statement M
-convert-spec =
+pub convert_spec : {M : Type 1} → statement M
+convert_spec =
     tie.close
     (tie.spec
     convert-blocks-requires

@@ -10,43 +10,43 @@ use Rattle.grey.specs.GreyPlaces.{number_at}
 use Rattle.grey.proofs.conversion.store.Statement.{statement}
 use Rattle.grey.proofs.conversion.store.Tie as tie
 
-abbrev invariant-loop : tie.invariant-loop
+abbrev invariant-loop : tie.invariant-loop-k
 invariant-loop block grey₀ to k₀ grey k = (k ≤ 32) × RowAt to (number_at block) grey₀ k grey
 
-abbrev decreases-loop : tie.decreases-loop
+abbrev decreases-loop : tie.decreases-loop-k
 decreases-loop block grey₀ to k₀ grey k = 32 - k
 
-loop-holds : tie.Need-loop-init invariant-loop decreases-loop
+loop-holds : tie.Need-loop-k-init invariant-loop decreases-loop
 loop-holds c = (omega arith, row-none _ _ _)
 
-element-copy-out-grey : tie.Need-element-copy-out-grey invariant-loop decreases-loop
+element-copy-out-grey : tie.Need-bounds-block-k invariant-loop decreases-loop
 element-copy-out-grey c = search rules
 
-add-grey : tie.Need-overflow-add-grey invariant-loop decreases-loop
+add-grey : tie.Need-overflow_add-grey invariant-loop decreases-loop
 add-grey c = search rules
 
-slice-write-grey : tie.Need-slice-write-grey invariant-loop decreases-loop
+slice-write-grey : tie.Need-bounds-grey-to invariant-loop decreases-loop
 slice-write-grey c = search rules
 
-add-k : tie.Need-overflow-add-k invariant-loop decreases-loop
+add-k : tie.Need-overflow_add-k invariant-loop decreases-loop
 add-k c = search rules
 
-loop-less : tie.Need-loop-smaller invariant-loop decreases-loop
+loop-less : tie.Need-loop-k-smaller invariant-loop decreases-loop
 loop-less c = search rules
 
-loop-again : tie.Need-loop-preserved invariant-loop decreases-loop
+loop-again : tie.Need-loop-k-preserved invariant-loop decreases-loop
 unfolding number_at
 loop-again c =
-    let lp = c.before.before.loop in
-    let a = c.before.before.before.args in
+    let lp = c.loop-k in
+    let a = c.args in
     (omega arith, row_more _ (number_at a.block.now) _ lp.k lp.grey (get_or a.block.now lp.k 0) (omega arith) lp.invariant.1 refl)
 
-same_length : tie.Need-same-length invariant-loop decreases-loop
+same_length : tie.Need-shape_of-grey invariant-loop decreases-loop
 same_length c = search rules
 
 returns : tie.Need-returns invariant-loop decreases-loop
 returns c =
-    let lp = c.before.loop in
+    let lp = c.loop-k in
     let e : lp.k ≡ 32 = omega arith in
     rw e at lp.invariant.1
 

@@ -9,41 +9,41 @@ use Rattle.moved.proofs.clipping.clip.Statement.{statement}
 use Rattle.moved.proofs.clipping.clip.Tie as tie
 
 -- the move as it was passed
-place : (c : tie.After-biased) → c.biased.result ≡ bias_of c.before.args.d
-place c = c.biased.ensures ∙ ap bias_of (to_z-of_z c.before.fits.d)
+place : (c : tie.After-biased-place) → c.biased-place.result ≡ bias_of c.args.d
+place c = c.biased-place.ensures ∙ ap bias_of (to_z-of_z c.before.fits.d)
 
-biased-requires : tie.Need-biased-requires
+biased-requires : tie.Need-biased-place-requires
 biased-requires c κs = search rules
 
-sub-smaller : tie.Need-sub-smaller
+sub-smaller : tie.Need-overflow_sub-place
 sub-smaller c = search rules
 
-smaller-requires : tie.Need-smaller-requires
+smaller-requires : tie.Need-smaller-skip-requires
 smaller-requires c κs = search rules
 
-sub-t7 : tie.Need-sub-t7
+sub-t7 : tie.Need-overflow_sub-result
 sub-t7 c = search rules
 
-returns : tie.Need-returns
+returns : tie.Need-returns-then-place-lt-BIAS
 returns c =
     let s = c.before.before.before in
     let e = place c.before.before in
-    clipped-left s.args.side s.args.d s.fits.d c.smaller.result (omega arith) (omega arith)
+    clipped-left s.args.side s.args.d s.fits.d c.smaller-skip.result (omega arith) (omega arith)
 
-smaller-requires-2 : tie.Need-smaller-requires-2
+smaller-requires-2 : tie.Need-smaller-skip-requires-2
 smaller-requires-2 c κs = search rules
 
-sub-t8 : tie.Need-sub-t8
+sub-t8 : tie.Need-overflow_sub-result-2
 sub-t8 c = search rules
 
-returns-2 : tie.Need-returns-2
+returns-2 : tie.Need-returns
 returns-2 c =
     let s = c.before.before.before in
     let e = place c.before.before in
-    clipped-right s.args.side s.args.d s.fits.d c.smaller2.result (omega arith) (omega arith)
+    clipped-right s.args.side s.args.d s.fits.d c.smaller-skip-2.result (omega arith) (omega arith)
 
-pub clip-spec : {M : Type 1} → statement M
-clip-spec =
+pub clip_spec : {M : Type 1} → statement M
+clip_spec =
     tie.close
     (tie.spec
     biased-requires

@@ -7,60 +7,60 @@ use Rattle.moved.proofs.SpanLaws.{bytes_fit, row-above, row_from, row_below}
 use Rattle.moved.proofs.placing.place_row.Statement.{statement}
 use Rattle.moved.proofs.placing.place_row.Tie as tie
 
-mul-to : tie.Need-overflow-mul-to
+mul-to : tie.Need-overflow_mul-to
 mul-to c = search rules
 
-mul-to-2 : tie.Need-overflow-mul-to-2
-mul-to-2 c = let a = c.before.before.args in omega (arith, bytes_fit a.w a.h a.y (omega arith))
+mul-to-2 : tie.Need-overflow_mul-to-2
+mul-to-2 c = let a = c.args in omega (arith, bytes_fit a.w a.h a.y (omega arith))
 
-mul-clear : tie.Need-overflow-mul-clear
+mul-clear : tie.Need-overflow_mul-w
 mul-clear c = search rules
 
 clear-requires : tie.Need-clear-requires
-clear-requires c κs = let a = c.before.before.before.before.before.args in omega (arith, bytes_fit a.w a.h a.y (omega arith))
+clear-requires c κs = let a = c.args in omega (arith, bytes_fit a.w a.h a.y (omega arith))
 
-same_length : tie.Need-same-length
+same_length : tie.Need-shape_of-out-then-y-rows
 same_length c = search rules
 
-returns : tie.Need-returns
+returns : tie.Need-returns-then-y-rows
 returns c =
-    let a = c.before.before.before.before.before.before.before.before.args in
-    row-ext _ _ _ _ _ _ (λ i l. row-above a.w a.raster.now a.columns a.rows a.y (omega arith) i) c.before.before.clear.ensures
+    let a = c.args in
+    row-ext _ _ _ _ _ _ (λ i l. row-above a.w a.raster.now a.columns a.rows a.y (omega arith) i) c.clear.ensures
 
-add-copy-row : tie.Need-overflow-add-copy-row
+add-copy-row : tie.Need-overflow_add-rows
 add-copy-row c = search rules
 
-copy-row-requires : tie.Need-copy-row-requires
+copy-row-requires : tie.Need-copy_row-requires
 copy-row-requires c κs =
-    let a = c.before.before.before.before.before.before.before.before.before.args in
+    let a = c.args in
     let s = row_fits a.w a.h (a.rows.from + (a.y - a.rows.to)) (omega arith) in
     let t = bytes_fit a.w a.h a.y (omega arith) in
     (omega arith, (search rules, (omega arith, omega arith)))
 
-same-length-2 : tie.Need-same-length-2
+same-length-2 : tie.Need-shape_of-out-then-k-rows
 same-length-2 c = search rules
 
-returns-2 : tie.Need-returns-2
+returns-2 : tie.Need-returns-then-k-rows
 returns-2 c =
-    let a = c.before.before.before.before.before.before.before.before.before.before.before.before.args in
-    row-ext _ _ _ _ _ _ (λ i l. row_from a.w a.raster.now a.columns a.rows a.y (omega arith) (omega arith) i) c.before.before.copy-row.ensures
+    let a = c.args in
+    row-ext _ _ _ _ _ _ (λ i l. row_from a.w a.raster.now a.columns a.rows a.y (omega arith) (omega arith) i) c.copy_row.ensures
 
-mul-clear-2 : tie.Need-overflow-mul-clear-2
+mul-clear-2 : tie.Need-overflow_mul-w-2
 mul-clear-2 c = search rules
 
 clear-requires-2 : tie.Need-clear-requires-2
-clear-requires-2 c κs = let a = c.before.before.before.before.before.before.before.before.args in omega (arith, bytes_fit a.w a.h a.y (omega arith))
+clear-requires-2 c κs = let a = c.args in omega (arith, bytes_fit a.w a.h a.y (omega arith))
 
-same-length-3 : tie.Need-same-length-3
+same-length-3 : tie.Need-shape_of-out
 same-length-3 c = search rules
 
-returns-3 : tie.Need-returns-3
+returns-3 : tie.Need-returns
 returns-3 c =
-    let a = c.before.before.before.before.before.before.before.before.before.before.before.args in
-    row-ext _ _ _ _ _ _ (λ i l. row_below a.w a.raster.now a.columns a.rows a.y (omega arith) (omega arith) i) c.before.before.clear2.ensures
+    let a = c.args in
+    row-ext _ _ _ _ _ _ (λ i l. row_below a.w a.raster.now a.columns a.rows a.y (omega arith) (omega arith) i) c.clear-2.ensures
 
-pub place-row-spec : {M : Type 1} → statement M
-place-row-spec =
+pub place_row_spec : {M : Type 1} → statement M
+place_row_spec =
     tie.close
     (tie.spec
     mul-to

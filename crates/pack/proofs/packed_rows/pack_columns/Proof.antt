@@ -12,94 +12,94 @@ use borrow.Author.Rules.{rules}
 use Rattle.pack.proofs.packed_rows.pack_columns.Statement.{statement}
 use Rattle.pack.proofs.packed_rows.pack_columns.Tie as tie
 
-abbrev invariant-loop : tie.invariant-loop
+abbrev invariant-loop : tie.invariant-loop-k
 invariant-loop grey from w lo hi out₀ to weights full rest k₀ out k =
     (k ≤ full) × (row_words w ≡ (w + 63) / 64) × RowAt to (columns_word lo hi grey from w) out₀ k out
 
-abbrev decreases-loop : tie.decreases-loop
+abbrev decreases-loop : tie.decreases-loop-k
 decreases-loop grey from w lo hi out₀ to weights full rest k₀ out k = full - k
 
-loop-holds : tie.Need-loop-init invariant-loop decreases-loop
+loop-holds : tie.Need-loop-k-init invariant-loop decreases-loop
 loop-holds c =
-    let a = c.before.before.args in
+    let a = c.args in
     (omega arith, row_words a.w, row-none a.to (columns_word a.lo a.hi a.grey.now a.from a.w) a.out.now)
 
-mul-pack-word : tie.Need-overflow-mul-pack-word invariant-loop decreases-loop
+mul-pack-word : tie.Need-overflow_mul-k invariant-loop decreases-loop
 mul-pack-word c = search rules
 
-add-pack-word : tie.Need-overflow-add-pack-word invariant-loop decreases-loop
+add-pack-word : tie.Need-overflow_add-from invariant-loop decreases-loop
 add-pack-word c = search rules
 
-pack-word-requires : tie.Need-pack-word-requires invariant-loop decreases-loop
+pack-word-requires : tie.Need-pack_word-requires invariant-loop decreases-loop
 pack-word-requires c κs = (omega arith, omega arith, omega arith, weights-held)
 
-add-out : tie.Need-overflow-add-out invariant-loop decreases-loop
+add-out : tie.Need-overflow_add-out invariant-loop decreases-loop
 add-out c = search rules
 
-mul-out : tie.Need-overflow-mul-out invariant-loop decreases-loop
+mul-out : tie.Need-offset_bounds-out-to invariant-loop decreases-loop
 mul-out c = search rules
 
-slice-write-out : tie.Need-slice-write-out invariant-loop decreases-loop
+slice-write-out : tie.Need-bounds-out-to invariant-loop decreases-loop
 slice-write-out c = search rules
 
-add-k : tie.Need-overflow-add-k invariant-loop decreases-loop
+add-k : tie.Need-overflow_add-k invariant-loop decreases-loop
 add-k c = search rules
 
-loop-less : tie.Need-loop-smaller invariant-loop decreases-loop
+loop-less : tie.Need-loop-k-smaller invariant-loop decreases-loop
 loop-less c = search rules
 
-loop-again : tie.Need-loop-preserved invariant-loop decreases-loop
+loop-again : tie.Need-loop-k-preserved invariant-loop decreases-loop
 loop-again c =
-    let a = c.before.before.before.before.before.before.args in
-    let L = c.before.before.before.loop in (
+    let a = c.args in
+    let L = c.loop-k in (
       omega arith,
       L.invariant.1,
-      columns-word a.lo a.hi a.grey.now a.from a.w a.to L.k 64 a.out.now L.out c.pack-word.result (omega arith) (omega arith)
-          c.pack-word.ensures L.invariant.2,
+      columns-word a.lo a.hi a.grey.now a.from a.w a.to L.k 64 a.out.now L.out c.pack_word.result (omega arith) (omega arith)
+          c.pack_word.ensures L.invariant.2,
     )
 
-mul-pack-word-2 : tie.Need-overflow-mul-pack-word-2 invariant-loop decreases-loop
+mul-pack-word-2 : tie.Need-overflow_mul-full invariant-loop decreases-loop
 mul-pack-word-2 c = search rules
 
-add-pack-word-2 : tie.Need-overflow-add-pack-word-2 invariant-loop decreases-loop
+add-pack-word-2 : tie.Need-overflow_add-from-then-rest-gt0 invariant-loop decreases-loop
 add-pack-word-2 c = search rules
 
-pack-word-requires-2 : tie.Need-pack-word-requires-2 invariant-loop decreases-loop
+pack-word-requires-2 : tie.Need-pack_word-requires-then-rest-gt0 invariant-loop decreases-loop
 pack-word-requires-2 c κs = (omega arith, omega arith, omega arith, weights-held)
 
-add-out-2 : tie.Need-overflow-add-out-2 invariant-loop decreases-loop
+add-out-2 : tie.Need-overflow_add-out-then-rest-gt0 invariant-loop decreases-loop
 add-out-2 c = search rules
 
-mul-out-2 : tie.Need-overflow-mul-out-2 invariant-loop decreases-loop
+mul-out-2 : tie.Need-offset_bounds-out-to-then-rest-gt0 invariant-loop decreases-loop
 mul-out-2 c = search rules
 
-slice-write-out-2 : tie.Need-slice-write-out-2 invariant-loop decreases-loop
+slice-write-out-2 : tie.Need-bounds-out-to-then-rest-gt0 invariant-loop decreases-loop
 slice-write-out-2 c = search rules
 
-same_length : tie.Need-same-length invariant-loop decreases-loop
+same_length : tie.Need-shape_of-out-then-rest-gt0 invariant-loop decreases-loop
 same_length c = search rules
 
-returns : tie.Need-returns invariant-loop decreases-loop
+returns : tie.Need-returns-then-rest-gt0 invariant-loop decreases-loop
 returns c =
-    let a = c.before.before.before.before.before.before.before.args in
-    let L = c.before.before.before.before.loop in
+    let a = c.args in
+    let L = c.loop-k in
     let full : L.k ≡ a.w / 64 = omega arith in
     let more : a.w / 64 + 1 ≡ row_words a.w = omega arith in
     let r : RowAt a.to (columns_word a.lo a.hi a.grey.now a.from a.w) a.out.now (a.w / 64) L.out = rw full at L.invariant.2 in
     rw more at
-    (columns-word a.lo a.hi a.grey.now a.from a.w a.to (a.w / 64) (a.w % 64) a.out.now L.out c.pack-word2.result
-    (omega arith) (omega arith) c.pack-word2.ensures r)
+    (columns-word a.lo a.hi a.grey.now a.from a.w a.to (a.w / 64) (a.w % 64) a.out.now L.out c.pack_word-then-rest-gt0.result
+    (omega arith) (omega arith) c.pack_word-then-rest-gt0.ensures r)
 
-same-length-2 : tie.Need-same-length-2 invariant-loop decreases-loop
+same-length-2 : tie.Need-shape_of-out-else-rest-gt0 invariant-loop decreases-loop
 same-length-2 c = search rules
 
-returns-2 : tie.Need-returns-2 invariant-loop decreases-loop
+returns-2 : tie.Need-returns-else-rest-gt0 invariant-loop decreases-loop
 returns-2 c =
-    let all : c.before.before.loop.k ≡ row_words c.before.before.before.before.before.args.w = omega arith in
-    rw all at c.before.before.loop.invariant.2
+    let all : c.loop-k.k ≡ row_words c.args.w = omega arith in
+    rw all at c.loop-k.invariant.2
 
-pub pack-columns-spec : {M : Type 1} → statement M
-pack-columns-spec =
+pub pack_columns_spec : {M : Type 1} → statement M
+pack_columns_spec =
     tie.close
     (tie.spec
     invariant-loop

@@ -6,5 +6,5 @@ use Rattle.popcount.proofs.adder.full_adder.Tie as tie
 returns : tie.Need-returns
 returns c = adder-sums c.args.a c.args.b c.args.c
 
-pub full-adder-spec : {M : Type 1} → statement M
-full-adder-spec = tie.close (tie.spec returns)
+pub full_adder_spec : {M : Type 1} → statement M
+full_adder_spec = tie.close (tie.spec returns)

@@ -6,5 +6,5 @@ use Rattle.popcount.proofs.table.bit_counts.Tie as tie
 returns : tie.Need-returns
 returns c = counts_bits
 
-pub bit-counts-spec : {M : Type 1} → statement M
-bit-counts-spec = tie.close (tie.spec returns)
+pub bit_counts_spec : {M : Type 1} → statement M
+bit_counts_spec = tie.close (tie.spec returns)

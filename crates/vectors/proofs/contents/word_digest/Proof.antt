@@ -3,38 +3,38 @@ use Rattle.std.proofs.Common.{◌-◌, ◌≤◌, length, rules}
 use Rattle.vectors.proofs.contents.word_digest.Statement.{statement}
 use Rattle.vectors.proofs.contents.word_digest.Tie as tie
 
-abbrev invariant-loop : tie.invariant-loop
+abbrev invariant-loop : tie.invariant-loop-i
 invariant-loop words digest₀ i₀ digest i = i ≤ length words
 
-abbrev decreases-loop : tie.decreases-loop
+abbrev decreases-loop : tie.decreases-loop-i
 decreases-loop words digest₀ i₀ digest i = length words - i
 
-loop-holds : tie.Need-loop-init invariant-loop decreases-loop
+loop-holds : tie.Need-loop-i-init invariant-loop decreases-loop
 loop-holds c = search rules
 
-mul-add-word : tie.Need-overflow-mul-add-word invariant-loop decreases-loop
+mul-add-word : tie.Need-offset_bounds-words-i invariant-loop decreases-loop
 mul-add-word c = search rules
 
-shared-slice-read-add-word : tie.Need-shared-slice-read-add-word invariant-loop decreases-loop
+shared-slice-read-add-word : tie.Need-bounds-words-i invariant-loop decreases-loop
 shared-slice-read-add-word c = search rules
 
-add-word-requires : tie.Need-add-word-requires invariant-loop decreases-loop
+add-word-requires : tie.Need-add_word-digest-requires invariant-loop decreases-loop
 add-word-requires c κs = search rules
 
-add-i : tie.Need-overflow-add-i invariant-loop decreases-loop
+add-i : tie.Need-overflow_add-i invariant-loop decreases-loop
 add-i c = search rules
 
-loop-less : tie.Need-loop-smaller invariant-loop decreases-loop
+loop-less : tie.Need-loop-i-smaller invariant-loop decreases-loop
 loop-less c = search rules
 
-loop-again : tie.Need-loop-preserved invariant-loop decreases-loop
+loop-again : tie.Need-loop-i-preserved invariant-loop decreases-loop
 loop-again c = search rules
 
 returns : tie.Need-returns invariant-loop decreases-loop
 returns c = search rules
 
-pub word-digest-spec : {M : Type 1} → statement M
-word-digest-spec =
+pub word_digest_spec : {M : Type 1} → statement M
+word_digest_spec =
     tie.close
     (tie.spec
     invariant-loop
