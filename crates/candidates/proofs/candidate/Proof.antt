@@ -10,7 +10,7 @@ use Rattle.candidates.proofs.candidate.Tie as tie
 -- the answer
 returns : tie.Need-returns
 returns c =
-    let a = c.before.before.before.before.before.before in
+    let a = c in
     let x = coordinate-is a.args.centre.dx c.step-i.result (a.args.k / 3) a.requires.1.dx c.step-i.ensures in
     let y = coordinate-is a.args.centre.dy c.step-j.result (a.args.k % 3) a.requires.1.dy c.step-j.ensures in
     (λ i. record { dx = x i; dy = y i }) ∙ sym (candidate-is a.args.centre a.args.k a.requires.0)
@@ -24,12 +24,12 @@ step-requires-2 c κs = search rules
 
 add-t6 : tie.Need-overflow_add-result
 add-t6 c =
-    let a = c.before.before.before.before in
+    let a = c in
     coordinate-fits a.args.centre.dx c.step-i.result (a.args.k / 3) a.requires.1.dx c.step-i.ensures
 
 add-t7 : tie.Need-overflow_add-result-2
 add-t7 c =
-    let a = c.before.before.before.before.before.before in
+    let a = c in
     coordinate-fits a.args.centre.dy c.step-j.result (a.args.k % 3) a.requires.1.dy c.step-j.ensures
 
 pub candidate_spec : {M : Type 1} → statement M

@@ -44,10 +44,10 @@ same_length c = search rules
 returns-2 : tie.Need-returns
 unfolding grey_at grey_frame
 returns-2 c =
-    let done = c.before.before in
-    let taken = done.before.before in
+    let done = c in
+    let taken = done in
     let a = taken.args in
-    let e = sym (number_is taken.before) ∙ taken.if-n-ne0.false in
+    let e = sym (number_is taken.before.before.before.before.before) ∙ taken.if-n-ne0.false in
     rw e (record {
       answered = refl;
       filled = frame-written
@@ -55,9 +55,9 @@ returns-2 c =
           a.h
           (grey_frame a.w a.raster.now)
           a.grey.now
-          done.convert.new.1.1.0
-          (accepted taken).room
-          (flat-frame 0 a.w a.h (grey_at a.raster.now) a.grey.now done.convert.new.1.1.0 done.convert.ensures);
+          done.convert.new.grey
+          (accepted taken.before.before.before.before).room
+          (flat-frame 0 a.w a.h (grey_at a.raster.now) a.grey.now done.convert.new.grey done.convert.ensures);
     })
 
 pub to_grey_spec : {M : Type 1} → statement M

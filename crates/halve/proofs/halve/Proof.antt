@@ -41,10 +41,10 @@ same_length c = search rules
 
 returns-2 : tie.Need-returns
 returns-2 c =
-    let done = c.before.before in
-    let taken = done.before.before in
+    let done = c in
+    let taken = done in
     let a = taken.args in
-    let e = sym (number_is taken.before) ∙ taken.if-n-ne0.false in
+    let e = sym (number_is taken.before.before.before.before.before) ∙ taken.if-n-ne0.false in
     rw e (record {
       answered = refl;
       filled = frame-written
@@ -52,8 +52,8 @@ returns-2 c =
           (a.h / 2)
           (halved (frame_of a.w a.grey.now))
           a.out.now
-          done.halve_frame.new.1.1.1.0
-          (accepted taken).room
+          done.halve_frame.new.dst
+          (accepted taken.before.before.before.before).room
           done.halve_frame.ensures;
     })
 

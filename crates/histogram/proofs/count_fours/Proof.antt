@@ -70,9 +70,9 @@ loop-less c = search rules
 
 loop-again : tie.Need-loop-i-preserved invariant-loop decreases-loop
 loop-again c =
-    let c3 = c.before.before.before in
-    let c2 = c3.before.before.before in
-    let c1 = c2.before.before.before in
+    let c3 = c in
+    let c2 = c3 in
+    let c1 = c2 in
     let L = c1.loop-i in (
       omega arith,
       omega arith,

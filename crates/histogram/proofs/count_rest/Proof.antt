@@ -25,7 +25,7 @@ shared-slice-read-bump c = search rules
 bump-requires : tie.Need-bump-requires invariant-loop decreases-loop
 bump-requires c κs =
     let L = c.loop-i in
-    let s = c.before.before.before.before.before in
+    let s = c in
     let v = get_or s.args.grey.now L.i 0 in
     (L.invariant.1, omega (arith, L.invariant.2 v, s.requires.3 v, count-le s.args.grey.now L.i v))
 
@@ -38,7 +38,7 @@ loop-less c = search rules
 loop-again : tie.Need-loop-i-preserved invariant-loop decreases-loop
 loop-again c =
     let L = c.loop-i in
-    let s = c.before.before.before.before.before.before in
+    let s = c in
     let e = c.bump.ensures in
     (omega arith, e.size ∙ L.invariant.1, λ v. omega (arith, e.counts v, L.invariant.2 v, count-more s.args.grey.now L.i v))
 

@@ -24,30 +24,30 @@ count-rest-requires c κs =
 
 -- after the rest the four tables count the whole frame
 counted : (c : tie.After-count_rest) (v : ℕ)
-    → four c.count_rest.new.1.1.0
-    c.count_fours.new.1.1.0
-    c.count_fours.new.1.1.1.0
-    c.count_fours.new.1.1.1.1.0
+    → four c.count_rest.new.table
+    c.count_fours.new.b
+    c.count_fours.new.c
+    c.count_fours.new.d
     v
     ≡ count_in c.args.grey.now v
 counted c =
     let f = c.count_fours in
-    let t = f.new.1 in
-    tally-rest _ _ t.0 t.1.0 t.1.1.0 t.1.1.1.0 c.count_rest.new.1.1.0 f.ensures c.count_rest.ensures.1
+    let t = f.new in
+    tally-rest _ _ t.a t.b t.c t.d c.count_rest.new.table f.ensures c.count_rest.ensures.1
 
 merge-requires : tie.Need-merge-requires
 merge-requires c κs =
-    let r = c.before.before.before.before in
-    let s = r.before.before.before.before.before.before.before.before in
+    let r = c in
+    let s = r in
     let l = s.args.grey.now in
     let p = s.requires in
-    (r.count_rest.ensures.0, λ v. omega (arith, counted r v, count-le l (length l) v))
+    (r.count_rest.ensures.0, λ v. omega (arith, counted r.before.before.before.before v, count-le l (length l) v))
 
 returns : tie.Need-returns
 returns c =
-    let r = c.before.before.before.before.before in
-    let k = r.before.before.before.before.before.before.before in
-    counts_of _ _ (λ v l. omega (arith, c.merge.ensures v l, counted r v)) (λ i l. (k.shared_slice_known-1.given i).fits)
+    let r = c in
+    let k = r in
+    counts_of _ _ (λ v l. omega (arith, c.merge.ensures v l, counted r.before.before.before.before.before v)) (λ i l. (k.shared_slice_known-1.given i).fits)
 
 pub histogram_spec : {M : Type 1} → statement M
 histogram_spec =

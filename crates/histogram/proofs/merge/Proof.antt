@@ -79,11 +79,11 @@ loop-less c = search rules
 
 loop-again : tie.Need-loop-v-preserved invariant-loop decreases-loop
 loop-again c =
-    let p = c.before.before.before.before.before.before.before.before.before in
+    let p = c in
     let L = p.loop-v in
-    let s = p.before in (
+    let s = p in (
       omega arith,
-      rw (zero-add L.v) at (row_more 0 _ s.args.a.now L.v L.a _ (let h = s.requires.0 in omega arith) L.invariant.1 (sum_is p)),
+      rw (zero-add L.v) at (row_more 0 _ s.args.a.now L.v L.a _ (let h = s.requires.0 in omega arith) L.invariant.1 (sum_is p.before.before.before.before.before.before.before.before.before)),
     )
 
 returns : tie.Need-returns invariant-loop decreases-loop

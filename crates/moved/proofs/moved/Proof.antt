@@ -39,15 +39,15 @@ same_length c = search rules
 
 returns-2 : tie.Need-returns
 returns-2 c =
-    let done = c.before.before in
-    let taken = done.before.before.before.before in
-    let s = taken.before.before.before.before in
+    let done = c in
+    let taken = done in
+    let s = taken in
     let a = s.args in
     let columns = subst (λ (d : ℤ). Clipped a.w d done.clip.result) (to_z-of_z s.ranges.dx) done.clip.ensures in
     let lines = subst (λ (d : ℤ). Clipped a.h d done.clip-2.result) (to_z-of_z s.ranges.dy) done.clip-2.ensures in
     rw (sym taken.moved_refusal-n.ensures ∙ taken.if-n-ne0.false) (record {
       answered = refl;
-      filled = moved-written a.w a.h a.dx a.dy a.raster.now a.out.now done.place_rows.new.1.0 _ _ columns lines (accepted taken).room done.place_rows.ensures;
+      filled = moved-written a.w a.h a.dx a.dy a.raster.now a.out.now done.place_rows.new.out _ _ columns lines (accepted taken.before.before.before.before.before.before).room done.place_rows.ensures;
     })
 
 pub moved_spec : {M : Type 1} → statement M

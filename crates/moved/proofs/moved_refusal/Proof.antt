@@ -26,7 +26,7 @@ lowest-requires c κs = search rules
 returns-2 : tie.Need-returns
 unfolding moved_refusal
 returns-2 c =
-    let e = c.before in
+    let e = c in
     simp (sym e.bad_size.ensures ∙ e.if-bad_size.false) (simp or_else-none at c.lowest.ensures)
 
 pub moved_refusal_spec : {M : Type 1} → statement M

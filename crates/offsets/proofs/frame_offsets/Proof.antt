@@ -27,13 +27,13 @@ from-first-requires c κs = (omega arith, λ j l. c.requires.1.1.1 j (omega arit
 
 turned-requires : tie.Need-turned-m-requires invariant-loop decreases-loop
 turned-requires c κs =
-    let a = c.before in
+    let a = c in
     turn-ready a.args.pairs.now a.args.r c.from_First.result (omega arith) (λ j l. a.requires.1.1.1 j (omega arith)) c.from_First.ensures
 
 loop-holds : tie.Need-loop-k-init invariant-loop decreases-loop
 unfolding offset_list
 loop-holds c =
-    let a = c.before.before in
+    let a = c in
     (omega arith, c.turned-m.ensures ∙ ap opposite c.before.from_First.ensures ∙ sym (frame-turned (pair_offset a.args.pairs.now) a.args.r), refl)
 
 add-loop : tie.Need-overflow_add-k invariant-loop decreases-loop
@@ -58,12 +58,12 @@ module _ (c : tie.At-loop-k invariant-loop decreases-loop) where
 
 loop-again : tie.Need-loop-k-preserved invariant-loop decreases-loop
 loop-again c =
-    let i = c.before.before.before.before.before in
-    let a = begun i in
+    let i = c in
+    let a = begun i.before.before.before.before.before in
     let l = i.loop-k in (
       omega arith,
       next-frame a.args.pairs.now a.args.r l.k l.m c.next_offset-m.result l.invariant.1 c.next_offset-m.ensures,
-      written i c.put_offset.new.0 c.put_offset.ensures,
+      written i.before.before.before.before.before c.put_offset.new.list c.put_offset.ensures,
     )
 
 put-offset-requires : tie.Need-put_offset-requires invariant-loop decreases-loop
@@ -87,14 +87,14 @@ put-offset-requires-2 c κs = let r = ready c.before.before in omega arith
 
 returns : tie.Need-returns invariant-loop decreases-loop
 returns c =
-    let i = c.before.before.before.before in
-    let e : i.loop-k.k + 1 ≡ (begun i).args.n = omega arith in
-    rw e at (written i c.put_offset-2.new.0 c.put_offset-2.ensures)
+    let i = c in
+    let e : i.loop-k.k + 1 ≡ (begun i.before.before.before.before).args.n = omega arith in
+    rw e at (written i.before.before.before.before c.put_offset-2.new.list c.put_offset-2.ensures)
 
 same_length : tie.Need-shape_of-offsets invariant-loop decreases-loop
 same_length c =
-    let i = c.before.before.before.before in
-    ap length (returns c) ∙ written-length (begun i).args.n (frames i) (lent i) (omega arith)
+    let i = c in
+    ap length (returns c) ∙ written-length (begun i.before.before.before.before).args.n (frames i.before.before.before.before) (lent i.before.before.before.before) (omega arith)
 
 pub frame_offsets_spec : {M : Type 1} → statement M
 frame_offsets_spec =

@@ -21,7 +21,7 @@ loop-holds c = (omega arith, sym (frame_at (pair_offset c.args.pairs.now) 0))
 
 next-offset-requires : tie.Need-next_offset-sum-requires invariant-loop decreases-loop
 next-offset-requires c κs =
-    let a = c.before.before in
+    let a = c in
     let l = c.loop-k in
     (omega arith, next-ready a.args.pairs.now a.args.r 0 l.k l.sum (omega arith) a.requires.1 (omega arith) (omega arith) l.invariant.1)
 

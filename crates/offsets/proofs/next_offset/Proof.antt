@@ -30,8 +30,8 @@ shared-slice-copy-out-dx c = search rules
 
 add-dx : tie.Need-overflow_add-dx
 add-dx c =
-    let a = c.before.before.before in
-    sum-bits-fit a.args.m.dx (get_or a.args.pairs.now (2 * a.args.k) (pos 0)) (far a).dx (near a).dx
+    let a = c in
+    sum-bits-fit a.args.m.dx (get_or a.args.pairs.now (2 * a.args.k) (pos 0)) (far a.before.before.before).dx (near a.before.before.before).dx
 
 add-dy : tie.Need-overflow_add-dy
 add-dy c = search rules
@@ -44,16 +44,16 @@ shared-slice-copy-out-dy c = search rules
 
 add-dy-2 : tie.Need-overflow_add-dy-2
 add-dy-2 c =
-    let a = c.before.before.before.before.before.before in
-    sum-bits-fit a.args.m.dy (get_or a.args.pairs.now (2 * a.args.k + 1) (pos 0)) (far a).dy (near a).dy
+    let a = c in
+    sum-bits-fit a.args.m.dy (get_or a.args.pairs.now (2 * a.args.k + 1) (pos 0)) (far a.before.before.before.before.before.before).dy (near a.before.before.before.before.before.before).dy
 
 returns : tie.Need-returns
 returns c =
-    let a = c.before.before.before.before.before.before in
-    let n = near a in
+    let a = c in
+    let n = near a.before.before.before.before.before.before in
     λ i. record {
-      dx = sum_is a.args.m.dx (get_or a.args.pairs.now (2 * a.args.k) (pos 0)) (far a).dx n.dx i;
-      dy = sum_is a.args.m.dy (get_or a.args.pairs.now (2 * a.args.k + 1) (pos 0)) (far a).dy n.dy i;
+      dx = sum_is a.args.m.dx (get_or a.args.pairs.now (2 * a.args.k) (pos 0)) (far a.before.before.before.before.before.before).dx n.dx i;
+      dy = sum_is a.args.m.dy (get_or a.args.pairs.now (2 * a.args.k + 1) (pos 0)) (far a.before.before.before.before.before.before).dy n.dy i;
     }
 
 pub next_offset_spec : {M : Type 1} → statement M

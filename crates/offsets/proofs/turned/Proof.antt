@@ -23,12 +23,12 @@ sub-left : tie.Need-overflow_sub-left
 sub-left c = difference-bits-fit (pos 0) c.args.m.dx (omega arith) (near c.before.before).dx
 
 sub-up : tie.Need-overflow_sub-up
-sub-up c = let a = c.before.before.before.before in difference-bits-fit (pos 0) a.args.m.dy (omega arith) (near a).dy
+sub-up c = let a = c in difference-bits-fit (pos 0) a.args.m.dy (omega arith) (near a.before.before.before.before).dy
 
 returns : tie.Need-returns
 returns c =
-    let a = c.before.before.before.before in
-    λ i. record { dx = negative a.args.m.dx (near a).dx i; dy = negative a.args.m.dy (near a).dy i }
+    let a = c in
+    λ i. record { dx = negative a.args.m.dx (near a.before.before.before.before).dx i; dy = negative a.args.m.dy (near a.before.before.before.before).dy i }
 
 pub turned_spec : {M : Type 1} → statement M
 turned_spec = tie.close (tie.spec sub-left sub-up returns)

@@ -51,16 +51,16 @@ loop-less c = search rules
 
 loop-again : tie.Need-loop-b-preserved invariant-loop decreases-loop
 loop-again c =
-    let stored = c.before.before in
-    let made = stored.before.before.before in
+    let stored = c in
+    let made = stored in
     let lp = made.loop-b in
-    let start = made.before.before.before.before.before in
+    let start = made in
     let a = start.args in (
       omega arith,
       block_within
           a.grey.now
           lp.grey
-          stored.store_block.new.1.0
+          stored.store_block.new.dst
           made.seconds-all.result
           a.top
           a.bottom

@@ -61,16 +61,16 @@ loop-less c = search rules
 
 loop-again : tie.Need-loop-y-preserved invariant-loop decreases-loop
 loop-again c =
-    let row = c.before.before in
-    let test = row.before.before in
+    let row = c in
+    let test = row in
     let lp = test.loop-y in
-    let start = test.before.before.before in
+    let start = test in
     let a = start.args in (
       omega arith,
       half-within
           a.grey.now
           lp.grey
-          row.row_within.new.0
+          row.row_within.new.grey
           a.from
           a.w
           a.h

@@ -38,14 +38,14 @@ same_length c = search rules
 
 returns : tie.Need-returns
 returns c =
-    let rest = c.before.before in
-    let blocks = rest.before.before.before.before in
-    let start = blocks.before.before.before in
+    let rest = c in
+    let blocks = rest in
+    let start = blocks in
     let a = start.args in
     rest-within
     a.grey.now
-    blocks.blocks_within.new.0
-    rest.rest_within.new.0
+    blocks.blocks_within.new.grey
+    rest.rest_within.new.grey
     a.top
     a.bottom
     a.to

@@ -26,26 +26,26 @@ mul-row : tie.Need-overflow_mul-row invariant-loop decreases-loop
 mul-row c = omega (arith, fits c.before)
 
 add-clipped-word : tie.Need-overflow_add-from invariant-loop decreases-loop
-add-clipped-word c = omega (arith, fits c.before.before)
+add-clipped-word c = omega (arith, fits c.before)
 
 clipped-word-requires : tie.Need-clipped_word-requires invariant-loop decreases-loop
 clipped-word-requires c κs =
-    let test = c.before.before in
+    let test = c in
     let p = test.requires in
-    let f = fits test in
+    let f = fits test.before in
     (p.0, (p.1.0, omega arith))
 
 add_words : tie.Need-overflow_add-words invariant-loop decreases-loop
-add_words c = omega (arith, fits c.before.before.before)
+add_words c = omega (arith, fits c.before.before)
 
 add-words-2 : tie.Need-overflow_add-words-in-loop-y invariant-loop decreases-loop
-add-words-2 c = omega (arith, fits c.before.before.before)
+add-words-2 c = omega (arith, fits c.before.before)
 
 mul_words : tie.Need-offset_bounds-words-to invariant-loop decreases-loop
-mul_words c = omega (arith, fits c.before.before.before)
+mul_words c = omega (arith, fits c.before.before)
 
 slice-write-words : tie.Need-bounds-words-to invariant-loop decreases-loop
-slice-write-words c = omega (arith, fits c.before.before.before)
+slice-write-words c = omega (arith, fits c.before.before)
 
 add-y : tie.Need-overflow_add-y invariant-loop decreases-loop
 add-y c = search rules
@@ -55,9 +55,9 @@ loop-less c = search rules
 
 loop-again : tie.Need-loop-y-preserved invariant-loop decreases-loop
 loop-again c =
-    let test = c.before.before.before in
+    let test = c in
     let L = test.loop-y in
-    let s = test.before.before.before in
+    let s = test in
     let a = s.args in (
       omega arith,
       column-more a.to a.m.n (moved_rows a.words.now a.from a.m) a.h a.k L.y c.clipped_word.result a.words.now L.words s.requires.1.1.1 s.requires.1.0

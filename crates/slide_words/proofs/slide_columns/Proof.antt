@@ -19,7 +19,7 @@ loop-holds c = search rules
 
 slide-column-requires : tie.Need-slide_column-requires invariant-loop decreases-loop
 slide-column-requires c κs =
-    let test = c.before in
+    let test = c in
     let p = test.requires in
     let e = test.loop-k.invariant.1.1.len in
     (p.0, (omega arith, (omega arith, omega arith)))
@@ -32,17 +32,17 @@ loop-less c = search rules
 
 loop-again : tie.Need-loop-k-preserved invariant-loop decreases-loop
 loop-again c =
-    let column = c.before.before in
-    let test = column.before.before in
+    let column = c in
+    let test = column in
     let L = test.loop-k in
-    let s = test.before.before.before in
+    let s = test in
     let a = s.args in (
       omega arith,
       (
         omega arith,
-        columns-more a.to a.m.n (moved_rows a.words.now a.from a.m) a.h a.first L.k a.words.now L.words column.slide_column.new.0 L.invariant.0 (omega arith)
+        columns-more a.to a.m.n (moved_rows a.words.now a.from a.m) a.h a.first L.k a.words.now L.words column.slide_column.new.words L.invariant.0 (omega arith)
             L.invariant.1.1
-            (columns-same a.to a.m.n (moved_rows L.words a.from a.m) (moved_rows a.words.now a.from a.m) L.k (L.k + 1) L.words a.h column.slide_column.new.0
+            (columns-same a.to a.m.n (moved_rows L.words a.from a.m) (moved_rows a.words.now a.from a.m) L.k (L.k + 1) L.words a.h column.slide_column.new.words
             (λ k z l. rows_under a.words.now L.words a.from a.m a.h a.to k z s.requires.0.row s.requires.1.1.0 l
             (columns-under a.to a.m.n (moved_rows a.words.now a.from a.m) a.first L.k a.words.now a.h L.words L.invariant.1.1))
             column.slide_column.ensures),

@@ -19,10 +19,10 @@ same_length c = search rules
 
 returns-3 : tie.Need-returns
 returns-3 c =
-    let s = c.before.before.before.before.before.before.before.before in
+    let s = c in
     let a = s.args in
     let run = c.slide_run in
-    run-interiors a.words.now a.words.now run.new.0 a.from a.m a.h a.to s.requires.0 (omega (arith, s.requires.0)) (omega arith) run.ensures
+    run-interiors a.words.now a.words.now run.new.words a.from a.m a.h a.to s.requires.0 (omega (arith, s.requires.0)) (omega arith) run.ensures
 
 pub slide_interiors_spec : {M : Type 1} → statement M
 slide_interiors_spec =

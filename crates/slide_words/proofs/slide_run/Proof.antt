@@ -26,7 +26,7 @@ room s = row_fits s.args.m.n s.args.h (s.args.h - 1) (omega arith)
 
 inside : (c : tie.In-loop-k invariant-loop decreases-loop) → let a = c.args in Interior (a.m.n * a.h * 64 / 64) a.m.q c.loop-k.k
 inside c =
-    let s = c.before.before.before.before.before in
+    let s = c in
     run_inside s.args.m s.args.h c.loop-k.k s.requires.0 s.requires.1.0.0 s.requires.1.0.1 c.loop-k.invariant.0 c.loop-k-test.true
 
 sub-end : tie.Need-overflow_sub-end invariant-loop decreases-loop
@@ -36,11 +36,11 @@ mul-end : tie.Need-overflow_mul-end invariant-loop decreases-loop
 mul-end c = omega (arith, room c.before.before)
 
 add-end : tie.Need-overflow_add-end invariant-loop decreases-loop
-add-end c = let s = c.before.before.before in omega (arith, room s, s.requires.0.ends)
+add-end c = let s = c in omega (arith, room s.before.before.before, s.requires.0.ends)
 
 loop-holds : tie.Need-loop-k-init invariant-loop decreases-loop
 loop-holds c =
-    let s = c.before.before.before in
+    let s = c in
     let a = s.args in
     (omega arith, (omega arith, part_none (moved_word a.words.now a.from (a.m.n * a.h * 64) a.m.q a.m.r) a.words.now a.to a.m.first))
 
@@ -88,11 +88,11 @@ loop-less c = search rules
 
 loop-again : tie.Need-loop-k-preserved invariant-loop decreases-loop
 loop-again c =
-    let test = c.before.before.before.before in
-    let s = test.before.before.before.before.before in
+    let test = c in
+    let s = test in
     let a = s.args in
     let L = test.loop-k in
-    let n = inside test in
+    let n = inside test.before.before.before.before in
     let w : ℕ = a.m.n * a.h * 64 in
     let e = long-words (a.m.n * a.h) in (
       omega arith,

@@ -4,13 +4,13 @@ use Rattle.area.specs.Common.{outside}
 use Rattle.area.proofs.ranges.outside.Statement.{statement}
 use Rattle.area.proofs.ranges.outside.Tie as tie
 
-returns : tie.Need-returns-then-d-lt-LOWEST
+returns : tie.Need-returns
 unfolding outside
-returns c = rw (rw (to_z-of_z c.before.fits.d) at c.if-d-lt-LOWEST.taken)
+returns c = rw (rw (to_z-of_z c.before.fits.d) at c.if1.taken)
 
-returns-2 : tie.Need-returns
+returns-2 : tie.Need-returns-2
 unfolding outside
-returns-2 c = rw (to_z-of_z c.before.fits.d, rw (to_z-of_z c.before.fits.d) at c.if-d-lt-LOWEST.left)
+returns-2 c = rw (to_z-of_z c.before.fits.d, rw (to_z-of_z c.before.fits.d) at c.if1.left)
 
-pub outside_spec : {M : Type 1} → statement M
-outside_spec = tie.close (tie.spec returns returns-2)
+pub outside-spec : {M : Type 1} → statement M
+outside-spec = tie.close (tie.spec returns returns-2)

@@ -29,14 +29,14 @@ same_length c = search rules
 
 returns : tie.Need-returns
 returns c =
-    let rest = c.before.before in
-    let blocks = rest.before.before.before.before in
+    let rest = c in
+    let blocks = rest in
     let a = blocks.args in
     grey-rest
     a.raster.now
     a.grey.now
-    blocks.convert_blocks.new.1.1.0
-    rest.convert_rest.new.1.1.1.0
+    blocks.convert_blocks.new.grey
+    rest.convert_rest.new.grey
     a.to
     (32 * (a.n / 32))
     a.n

@@ -48,16 +48,16 @@ loop-less c = search rules
 
 loop-again : tie.Need-loop-b-preserved invariant-loop decreases-loop
 loop-again c =
-    let stored = c.before.before in
-    let greys = stored.before.before.before in
-    let colours = greys.before.before in
-    let bytes = colours.before.before in
+    let stored = c in
+    let greys = stored in
+    let colours = greys in
+    let bytes = colours in
     let lp = bytes.loop-b in
     let a = bytes.args in
     let raster = a.raster.now in
     let block = greys.weighed-block.result in (
       omega arith,
-      grey-more raster block a.grey.now lp.grey stored.store.new.1.0 a.to lp.b lp.invariant.1
+      grey-more raster block a.grey.now lp.grey stored.store.new.grey a.to lp.b lp.invariant.1
           (block-grey
           raster
           bytes.block_bytes-all.result

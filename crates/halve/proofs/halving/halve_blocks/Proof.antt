@@ -51,8 +51,8 @@ loop-less c = search rules
 
 loop-again : tie.Need-loop-b-preserved invariant-loop decreases-loop
 loop-again c =
-    let stored = c.before.before in
-    let made = stored.before.before.before in
+    let stored = c in
+    let made = stored in
     let lp = made.loop-b in
     let a = made.args in (
       omega arith,
@@ -61,7 +61,7 @@ loop-again c =
           made.seconds-all.result
           a.dst.now
           lp.dst
-          stored.store_block.new.1.0
+          stored.store_block.new.dst
           a.top
           a.bottom
           a.to

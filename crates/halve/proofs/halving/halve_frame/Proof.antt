@@ -54,7 +54,7 @@ loop-less c = search rules
 
 loop-again : tie.Need-loop-y-preserved invariant-loop decreases-loop
 loop-again c =
-    let row = c.before.before in
+    let row = c in
     let lp = row.loop-y in
     let a = row.args in (
       omega arith,
@@ -62,7 +62,7 @@ loop-again c =
           a.src.now
           a.dst.now
           lp.dst
-          row.halve_row.new.1.1.1.0
+          row.halve_row.new.dst
           0
           a.w
           lp.y

@@ -44,15 +44,15 @@ same_length c = search rules
 
 returns : tie.Need-returns
 returns c =
-    let rest = c.before.before in
-    let blocks = rest.before.before.before.before in
-    let count = blocks.before.before in
+    let rest = c in
+    let blocks = rest in
+    let count = blocks in
     let a = count.args in
     rest_more
     a.src.now
     a.dst.now
-    blocks.halve_blocks.new.1.1.1.0
-    rest.halve_rest.new.1.1.1.0
+    blocks.halve_blocks.new.dst
+    rest.halve_rest.new.dst
     a.top
     a.bottom
     a.to

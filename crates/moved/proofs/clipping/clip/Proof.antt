@@ -10,7 +10,7 @@ use Rattle.moved.proofs.clipping.clip.Tie as tie
 
 -- the move as it was passed
 place : (c : tie.After-biased-place) → c.biased-place.result ≡ bias_of c.args.d
-place c = c.biased-place.ensures ∙ ap bias_of (to_z-of_z c.before.fits.d)
+place c = c.biased-place.ensures ∙ ap bias_of (to_z-of_z c.ranges.d)
 
 biased-requires : tie.Need-biased-place-requires
 biased-requires c κs = search rules
@@ -26,9 +26,9 @@ sub-t7 c = search rules
 
 returns : tie.Need-returns-then-place-lt-BIAS
 returns c =
-    let s = c.before.before.before in
+    let s = c in
     let e = place c.before.before in
-    clipped-left s.args.side s.args.d s.fits.d c.smaller-skip.result (omega arith) (omega arith)
+    clipped-left s.args.side s.args.d s.ranges.d c.smaller-skip.result (omega arith) (omega arith)
 
 smaller-requires-2 : tie.Need-smaller-skip-requires-2
 smaller-requires-2 c κs = search rules
@@ -38,9 +38,9 @@ sub-t8 c = search rules
 
 returns-2 : tie.Need-returns
 returns-2 c =
-    let s = c.before.before.before in
+    let s = c in
     let e = place c.before.before in
-    clipped-right s.args.side s.args.d s.fits.d c.smaller-skip-2.result (omega arith) (omega arith)
+    clipped-right s.args.side s.args.d s.ranges.d c.smaller-skip-2.result (omega arith) (omega arith)
 
 pub clip_spec : {M : Type 1} → statement M
 clip_spec =

@@ -51,12 +51,12 @@ same_length c = search rules
 
 returns : tie.Need-returns
 returns c =
-    let last = c.before.before in
-    let middle = last.before.before.before.before in
-    let first = middle.before.before.before.before in
-    let s = first.before.before.before.before.before.before.before in
+    let last = c in
+    let middle = last in
+    let first = middle in
+    let s = first in
     let a = s.args in
-    row-of-runs a.w a.raster.now a.columns a.z a.to a.out.now first.clear.new.0 middle.copy.new.1.1.0 last.clear-2.new.0
+    row-of-runs a.w a.raster.now a.columns a.z a.to a.out.now first.clear.new.out middle.copy.new.out last.clear-2.new.out
     (search rules) first.clear.ensures middle.copy.ensures last.clear-2.ensures
 
 pub copy_row_spec : {M : Type 1} → statement M

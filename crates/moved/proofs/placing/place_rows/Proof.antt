@@ -30,11 +30,11 @@ loop-less c = search rules
 
 loop-again : tie.Need-loop-y-preserved invariant-loop decreases-loop
 loop-again c =
-    let row = c.before.before in
+    let row = c in
     let lp = row.loop-y in
     let a = row.args in (
       omega arith,
-      frame-more 0 (3 * a.w) (placed_byte a.w a.raster.now a.columns a.rows) a.out.now lp.y lp.out row.place_row.new.1.0 lp.invariant.1
+      frame-more 0 (3 * a.w) (placed_byte a.w a.raster.now a.columns a.rows) a.out.now lp.y lp.out row.place_row.new.out lp.invariant.1
           (rw (← zero-add (lp.y * (3 * a.w))) at row.place_row.ensures),
     )
 
