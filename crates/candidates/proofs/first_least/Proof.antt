@@ -67,8 +67,8 @@ loop-again : tie.Need-loop-k-preserved invariant-loop decreases-loop
 loop-again c =
     let l = c.loop-k in
     ⊎_elim
-    (λ w. (search rules, rw w.1 (leading-new _ l.k l.best l.invariant.1 w.if-counts-at.true)))
-    (λ w. (search rules, rw w.1 (leading-old _ l.k l.best l.invariant.1 w.if-counts-at.false)))
+    (λ w. (search rules, rw w.best-is (leading-new _ l.k l.best l.invariant.1 w.if-counts-at.true)))
+    (λ w. (search rules, rw w.best-is (leading-old _ l.k l.best l.invariant.1 w.if-counts-at.false)))
     c.if-counts-at.branch-raw
 
 returns : tie.Need-returns invariant-loop decreases-loop

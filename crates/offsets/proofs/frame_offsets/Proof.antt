@@ -28,13 +28,13 @@ from-first-requires c κs = (omega arith, λ j l. c.requires.1.1.1 j (omega arit
 turned-requires : tie.Need-turned-m-requires invariant-loop decreases-loop
 turned-requires c κs =
     let a = c in
-    turn-ready a.args.pairs.now a.args.r c.from_First.result (omega arith) (λ j l. a.requires.1.1.1 j (omega arith)) c.from_First.ensures
+    turn-ready a.args.pairs.now a.args.r c.from_first-sum.result (omega arith) (λ j l. a.requires.1.1.1 j (omega arith)) c.from_first-sum.ensures
 
 loop-holds : tie.Need-loop-k-init invariant-loop decreases-loop
 unfolding offset_list
 loop-holds c =
     let a = c in
-    (omega arith, c.turned-m.ensures ∙ ap opposite c.before.from_First.ensures ∙ sym (frame-turned (pair_offset a.args.pairs.now) a.args.r), refl)
+    (omega arith, c.turned-m.ensures ∙ ap opposite c.before.from_first-sum.ensures ∙ sym (frame-turned (pair_offset a.args.pairs.now) a.args.r), refl)
 
 add-loop : tie.Need-overflow_add-k invariant-loop decreases-loop
 add-loop c = search rules

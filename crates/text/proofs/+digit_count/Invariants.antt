@@ -1,0 +1,5 @@
+-- The number falls with each call.
+use Rattle.text.proofs.+digit_count.Given as goal
+
+abbrev pub decreases-digit_count : goal.decreases-digit_count
+decreases-digit_count l = l.n
