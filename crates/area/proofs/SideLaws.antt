@@ -26,7 +26,7 @@ use Rattle.area.specs.Sides.{axis_of, offsets_refusal, InRange}
 -- ---- numbers as the machine reads them
 
 pub read_back : (z : ℤ) → mag z < 2 ^ 31 → to_z w32 (of_z w32 z) ≡ z
-read_back z l = to_z-of_z (record { sfits = l })
+read_back z l = to_z-of_z {w = w32} (record { sfits = l })
 
 pub tested : (a b : ℤ) (t : Bool) → mag a < 2 ^ 31 → mag b < 2 ^ 31 → lt_z (to_z w32 (of_z w32 a)) (to_z w32 (of_z w32 b)) ≡ t → lt_z a b ≡ t
 tested a b t p q e = rw (read_back a p, read_back b q) at e

@@ -66,9 +66,9 @@ exclusion-plane t tolerance w grey bytes =
     λ i x y. exclusion-outside t tolerance (frame_of w grey x y) (let b = bytes (y * w + x) in omega arith) i
 
 -- the words of a row, as a sum that omega reads
-pub row_words : (w : ℕ) → row_words w ≡ (w + 63) / 64
+pub row-words : (w : ℕ) → row_words w ≡ (w + 63) / 64
 unfolding row_words
-row_words w = refl
+row-words w = refl
 
 -- word k of a row, from its flags: 64 pixels, or what is left of the row
 word-of-flags : (lo hi : ℕ) (grey : List ℕ) (from w k n : ℕ) → n ≡ min 64 (w - k * 64)

@@ -10,62 +10,62 @@ use borrow.Author.Rules.{rules}
 use Rattle.align_refusals.proofs.bad_percentiles.Statement.{statement}
 use Rattle.align_refusals.proofs.bad_percentiles.Tie as tie
 
-abbrev invariant-loop : tie.invariant-loop
+abbrev invariant-loop : tie.invariant-loop-k
 invariant-loop n percentiles k₀ k = (k ≤ length percentiles) × (some_bad_percentile percentiles ≡ some_bad_percentile (drop k percentiles))
 
-abbrev decreases-loop : tie.decreases-loop
+abbrev decreases-loop : tie.decreases-loop-k
 decreases-loop n percentiles k₀ k = length percentiles - k
 
-sub-if1 : tie.Need-overflow-sub-if1 invariant-loop decreases-loop
+sub-if1 : tie.Need-overflow_sub-n invariant-loop decreases-loop
 sub-if1 c = search rules
 
-returns : tie.Need-returns invariant-loop decreases-loop
+returns : tie.Need-returns-then-percentiles-n invariant-loop decreases-loop
 unfolding bad_percentiles
-returns c = simp (ne_eqb _ _ c.if1.true)
+returns c = simp (ne_eqb _ _ c.if-percentiles-n.true)
 
-loop-holds : tie.Need-loop-init invariant-loop decreases-loop
+loop-holds : tie.Need-loop-k-init invariant-loop decreases-loop
 loop-holds c = (omega arith, refl)
 
-mul-bad-percentile : tie.Need-overflow-mul-bad-percentile invariant-loop decreases-loop
+mul-bad-percentile : tie.Need-offset_bounds-percentiles-k invariant-loop decreases-loop
 mul-bad-percentile c = search rules
 
 shared-slice-read-bad-percentile :
-    tie.Need-shared-slice-read-bad-percentile invariant-loop decreases-loop
+    tie.Need-bounds-percentiles-k invariant-loop decreases-loop
 shared-slice-read-bad-percentile c = search rules
 
-bad-percentile-requires : tie.Need-bad-percentile-requires invariant-loop decreases-loop
+bad-percentile-requires : tie.Need-bad_percentile-requires invariant-loop decreases-loop
 bad-percentile-requires c κs = search rules
 
-returns-2 : tie.Need-returns-2 invariant-loop decreases-loop
+returns-2 : tie.Need-returns-then-bad_percentile invariant-loop decreases-loop
 unfolding bad_percentiles
 returns-2 c =
-    let L = c.before.before.before.before.loop in
-    let ps = c.before.before.before.before.before.before.before.args.percentiles.now in
-    let b = sym c.before.bad-percentile.ensures ∙ c.if2.true in
-    simp (eq-eqb _ _ c.before.before.before.before.before.if1.false, bad-here ps L.k c.before.before.before.loop-test.true L.invariant.1 b)
+    let L = c.loop-k in
+    let ps = c.args.percentiles.now in
+    let b = sym c.bad_percentile.ensures ∙ c.if-bad_percentile.true in
+    simp (eq-eqb _ _ c.if-percentiles-n.false, bad-here ps L.k c.loop-k-test.true L.invariant.1 b)
 
-add-k : tie.Need-overflow-add-k invariant-loop decreases-loop
+add-k : tie.Need-overflow_add-k invariant-loop decreases-loop
 add-k c = search rules
 
-loop-less : tie.Need-loop-smaller invariant-loop decreases-loop
+loop-less : tie.Need-loop-k-smaller invariant-loop decreases-loop
 loop-less c = search rules
 
-loop-again : tie.Need-loop-preserved invariant-loop decreases-loop
+loop-again : tie.Need-loop-k-preserved invariant-loop decreases-loop
 loop-again c =
-    let L = c.before.before.before.before.loop in
-    let ps = c.before.before.before.before.before.before.before.args.percentiles.now in
-    let b = sym c.before.bad-percentile.ensures ∙ c.if2.false in
-    (omega arith, bad-rest ps L.k c.before.before.before.loop-test.true L.invariant.1 b)
+    let L = c.loop-k in
+    let ps = c.args.percentiles.now in
+    let b = sym c.bad_percentile.ensures ∙ c.if-bad_percentile.false in
+    (omega arith, bad-rest ps L.k c.loop-k-test.true L.invariant.1 b)
 
-returns-3 : tie.Need-returns-3 invariant-loop decreases-loop
+returns-3 : tie.Need-returns invariant-loop decreases-loop
 unfolding bad_percentiles
 returns-3 c =
-    let L = c.before.loop in
-    let ps = c.before.before.before.before.args.percentiles.now in
-    simp (eq-eqb _ _ c.before.before.if1.false, bad-none ps L.k c.loop-test.false L.invariant.1)
+    let L = c.loop-k in
+    let ps = c.args.percentiles.now in
+    simp (eq-eqb _ _ c.if-percentiles-n.false, bad-none ps L.k c.loop-k-test.false L.invariant.1)
 
-pub bad-percentiles-spec : {M : Type 1} → statement M
-bad-percentiles-spec =
+pub bad_percentiles_spec : {M : Type 1} → statement M
+bad_percentiles_spec =
     tie.close
     (tie.spec
     invariant-loop

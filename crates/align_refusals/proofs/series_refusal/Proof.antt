@@ -12,100 +12,100 @@ use borrow.Author.Rules.{rules}
 use Rattle.align_refusals.proofs.series_refusal.Statement.{statement}
 use Rattle.align_refusals.proofs.series_refusal.Tie as tie
 
-shape-known : (c : tie.Else1) → let a = c.before.before.before.args in ShapeOk a.w a.h a.s
-shape-known c = shape-ok _ _ _ (sym c.before.shape-refusal.ensures ∙ c.if1.false)
+shape-known : (c : tie.Else-shape-ne0) → let a = c.args in ShapeOk a.w a.h a.s
+shape-known c = shape-ok _ _ _ (sym c.shape_refusal-shape.ensures ∙ c.if-shape-ne0.false)
 
-frames-number : (c : tie.After-lowest)
-    → let a = c.before.before.before.before.before.args in
-    c.lowest.result ≡ a.excluded or_else 6 when bad_frames a.n or_else 7 when bad_reference a.n a.r
+frames-number : (c : tie.After-lowest-frames)
+    → let a = c.args in
+    c.lowest-frames.result ≡ a.excluded or_else 6 when bad_frames a.n or_else 7 when bad_reference a.n a.r
 unfolding bad_reference
-frames-number c = simp (or_else-none, c.before.bad-frames.ensures) at c.lowest.ensures
+frames-number c = simp (or_else-none, c.bad_frames.ensures) at c.lowest-frames.ensures
 
-frames-known : (c : tie.Else2) → let a = c.before.before.before.before.before.before.args in FramesOk a.n a.r
-frames-known c = frames-ok c.before.before.before.before.before.before.args.excluded _ _ (sym (frames-number c.before) ∙ c.if2.false)
+frames-known : (c : tie.Else-frames-ne0) → let a = c.args in FramesOk a.n a.r
+frames-known c = frames-ok c.args.excluded _ _ (sym (frames-number c.before) ∙ c.if-frames-ne0.false)
 
-shape-refusal-requires : tie.Need-shape-refusal-requires
+shape-refusal-requires : tie.Need-shape_refusal-shape-requires
 shape-refusal-requires c κs = search rules
 
-returns : tie.Need-returns
+returns : tie.Need-returns-then-shape-ne0
 unfolding series_refusal
 returns c =
-    let a = c.before.before.before.args in
-    shape-first a.w a.h a.s _ _ c.before.shape-refusal.ensures c.if1.true
+    let a = c.args in
+    shape-first a.w a.h a.s _ _ c.shape_refusal-shape.ensures c.if-shape-ne0.true
 
-bad-frames-requires : tie.Need-bad-frames-requires
+bad-frames-requires : tie.Need-bad_frames-requires
 bad-frames-requires c κs = search rules
 
-lowest-requires : tie.Need-lowest-requires
+lowest-requires : tie.Need-lowest-frames-requires
 lowest-requires c κs = search rules
 
-returns-2 : tie.Need-returns-2
+returns-2 : tie.Need-returns-then-frames-ne0
 unfolding series_refusal
 returns-2 c =
-    let e = c.before.before.before in
-    let a = e.before.before.before.args in
-    frames-first a.excluded a.n a.r _ _ (frames-number c.before) c.if2.true
-    ∙ sym (shape-pass _ _ _ _ e.before.shape-refusal.ensures e.if1.false _)
+    let e = c in
+    let a = e.args in
+    frames-first a.excluded a.n a.r _ _ (frames-number c.before) c.if-frames-ne0.true
+    ∙ sym (shape-pass _ _ _ _ e.shape_refusal-shape.ensures e.if-shape-ne0.false _)
 
-mul-raster : tie.Need-overflow-mul-raster
+mul-raster : tie.Need-overflow_mul-raster
 mul-raster c = let k = shape-known c.before.before.before in omega arith
 
-mul-raster-2 : tie.Need-overflow-mul-raster-2
+mul-raster-2 : tie.Need-overflow_mul-raster-2
 mul-raster-2 c = let k = shape-known c.before.before.before in omega arith
 
-mul-all : tie.Need-overflow-mul-all
+mul-all : tie.Need-overflow_mul-all
 mul-all c =
-    let a = c.before.before.before.before.before.before.args in
+    let a = c.args in
     let k = shape-known c.before.before.before in
     let f = frames-known c in
     let v : 3 * (a.w * a.h) ≤ 50331648 = omega arith in
     omega (arith, mul-le-mul f.most v)
 
-add-pair : tie.Need-overflow-add-pair
+add-pair : tie.Need-overflow_add-pair
 add-pair c = search rules
 
-mul-pair : tie.Need-overflow-mul-pair
+mul-pair : tie.Need-overflow_mul-pair
 mul-pair c = search rules
 
-sub-pairs : tie.Need-overflow-sub-pairs
+sub-pairs : tie.Need-overflow_sub-pairs
 sub-pairs c = let f = frames-known c in omega arith
 
-mul-pairs : tie.Need-overflow-mul-pairs
+mul-pairs : tie.Need-overflow_mul-pairs
 mul-pairs c =
-    let a = c.before.before.before.before.before.before.args in
+    let a = c.args in
     let k = shape-known c.before.before.before in
     let f = frames-known c in
     let v : 9 * (a.s + 1) ≤ 81 = omega arith in
     let u : a.n - 1 ≤ 15 = omega arith in
     omega (arith, mul-le-mul v u)
 
-mul-sums : tie.Need-overflow-mul-sums
+mul-sums : tie.Need-overflow_mul-sums
 mul-sums c = let f = frames-known c in omega arith
 
-bad-percentiles-requires : tie.Need-bad-percentiles-requires
+bad-percentiles-requires : tie.Need-bad_percentiles-requires
 bad-percentiles-requires c κs = let f = frames-known c in omega arith
 
-short-memory-requires : tie.Need-short-memory-requires
+short-memory-requires : tie.Need-short_memory-requires
 short-memory-requires c κs = let k = shape-known c.before.before.before.before in omega arith
 
-lowest-requires-2 : tie.Need-lowest-requires-2
+lowest-requires-2 : tie.Need-lowest-requires
 lowest-requires-2 c κs = search rules
 
-returns-3 : tie.Need-returns-3
+returns-3 : tie.Need-returns
 unfolding series_refusal
 returns-3 c =
-    let d = c.before.before.before in
-    let e = d.before.before.before in
-    let a = e.before.before.before.args in
+    let d = c in
+    let e = d in
+    let a = e.args in
     simp (
-      shape-pass a.w a.h a.s _ e.before.shape-refusal.ensures e.if1.false,
-      frames-pass a.excluded a.n a.r _ (frames-number d.before) d.if2.false,
-      ← c.before.before.bad-percentiles.ensures,
-      ← c.before.short-memory.ensures,
-    ) (rw (← or_else-none (11 when c.before.short-memory.result)) c.lowest2.ensures)
+      shape-pass a.w a.h a.s _ e.shape_refusal-shape.ensures e.if-shape-ne0.false,
+      frames-pass a.excluded a.n a.r _ (frames-number d.before.before.before.before) d.if-frames-ne0.false,
+      ← c.bad_percentiles.ensures,
+      ← c.short_memory.ensures,
+    ) (rw (← or_else-none (11 when c.short_memory.result)) c.lowest.ensures)
 
-pub series-refusal-spec : {M : Type 1} → statement M
-series-refusal-spec =
+pub series_refusal_spec : {M : Type 1} → statement M
+series_refusal_spec =
     tie.close
     (tie.spec
     shape-refusal-requires

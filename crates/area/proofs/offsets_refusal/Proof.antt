@@ -11,48 +11,48 @@ use Rattle.area.specs.Sides.{offsets_refusal}
 use Rattle.area.proofs.offsets_refusal.Statement.{statement}
 use Rattle.area.proofs.offsets_refusal.Tie as tie
 
-bad-size-requires : tie.Need-bad-size-requires
+bad-size-requires : tie.Need-bad_size-requires
 bad-size-requires c κs = search rules
 
-returns : tie.Need-returns
+returns : tie.Need-returns-then-bad_size
 unfolding offsets_refusal
-returns c = simp (sym c.before.bad-size.ensures ∙ c.if1.true)
+returns c = simp (sym c.bad_size.ensures ∙ c.if-bad_size.true)
 
-bad-frames-requires : tie.Need-bad-frames-requires
+bad-frames-requires : tie.Need-bad_frames-requires
 bad-frames-requires c κs = search rules
 
-returns-2 : tie.Need-returns-2
+returns-2 : tie.Need-returns-then-bad_frames
 unfolding offsets_refusal
 returns-2 c =
-    let e = c.before.before in
-    simp (sym e.before.bad-size.ensures ∙ e.if1.false, sym c.before.bad-frames.ensures ∙ c.if2.true)
+    let e = c in
+    simp (sym e.bad_size.ensures ∙ e.if-bad_size.false, sym c.bad_frames.ensures ∙ c.if-bad_frames.true)
 
-mul-numbers : tie.Need-overflow-mul-numbers
+mul-numbers : tie.Need-overflow_mul-numbers
 unfolding bad_frames
 mul-numbers c =
-    let n = c.before.before.before.before.args.n in
-    let p = or_no (eqb n 0) (ltb max_frames n) (sym c.before.bad-frames.ensures ∙ c.if2.false) in
+    let n = c.args.n in
+    let p = or_no (eqb n 0) (ltb max_frames n) (sym c.bad_frames.ensures ∙ c.if-bad_frames.false) in
     omega (arith, ltb-false max_frames n p.1)
 
-some-outside-requires : tie.Need-some-outside-requires
+some-outside-requires : tie.Need-some_outside-requires
 some-outside-requires c κs = search rules
 
 lowest-requires : tie.Need-lowest-requires
 lowest-requires c κs = search rules
 
-returns-3 : tie.Need-returns-3
+returns-3 : tie.Need-returns
 unfolding offsets_refusal
 returns-3 c =
-    let f = c.before.before in
-    let e = f.before.before in
+    let f = c in
+    let e = f in
     simp (
-      sym e.before.bad-size.ensures ∙ e.if1.false,
-      sym f.before.bad-frames.ensures ∙ f.if2.false,
-      ← c.before.some-outside.ensures,
+      sym e.bad_size.ensures ∙ e.if-bad_size.false,
+      sym f.bad_frames.ensures ∙ f.if-bad_frames.false,
+      ← c.some_outside.ensures,
     ) (simp or_else-none at c.lowest.ensures)
 
-pub offsets-refusal-spec : {M : Type 1} → statement M
-offsets-refusal-spec =
+pub offsets_refusal_spec : {M : Type 1} → statement M
+offsets_refusal_spec =
     tie.close
     (tie.spec
     bad-size-requires

@@ -8,76 +8,70 @@ use Rattle.blink.proofs.BlinkLaws.{BlinkOk, blink-ok, part-refused, started, par
 use Rattle.blink.proofs.blink_row.Statement.{statement}
 use Rattle.blink.proofs.blink_row.Tie as tie
 
-blink-start-requires : tie.Need-blink-start-requires
+blink-start-requires : tie.Need-blink_start-requires
 blink-start-requires c κs = search rules
 
-enum-known-from : tie.Need-enum-known-from
+enum-known-from : tie.Need-enum_known-from
 enum-known-from c = search rules
 
-enum_told : tie.Need-enum-told
+enum_told : tie.Need-enum_told-1
 enum_told c = search rules
 
-slice-aggregate-result : tie.Need-slice-aggregate-result
+slice-aggregate-result : tie.Need-slice_bounds-result-end
 slice-aggregate-result c = search rules
 
-returns : tie.Need-returns
+returns : tie.Need-returns-in_default
 returns c =
-    let told = c.before.before.before in
-    let a = told.before.before.before.args in
-    part-refused a.w a.h a.y a.other a.first.now a.first.ref_ptr a.second.now a.second.ref_ptr _ _ (sym told.blink-start.ensures ∙ c.before.enum_told.given.1)
+    let told = c in
+    let a = told.args in
+    part-refused a.w a.h a.y a.other a.first.now a.first.ref_ptr a.second.now a.second.ref_ptr _ _ (sym told.blink_start.ensures ∙ c.enum_told-1.given.1)
 
 -- what an accepted call knows: where the row begins, and its sizes
-accepted : (c : tie.After-known-told)
-    → let a = c.before.before.before.before.before.before.args in
-    (c.before.from.given.0.0 ≡ row_start a.w a.y) × BlinkOk a.w a.h a.y (length a.first.now) (length a.second.now)
+accepted : (c : tie.In-At)
+    → let a = c.args in
+    (c.from-1.given.0.0 ≡ row_start a.w a.y) × BlinkOk a.w a.h a.y (length a.first.now) (length a.second.now)
 accepted c =
-    let told = c.before.before.before in
-    let a = told.before.before.before.args in
-    let s = started a.w a.h a.y a.other a.first.now a.first.ref_ptr a.second.now a.second.ref_ptr _ (sym told.blink-start.ensures ∙ c.before.from.given.1) in
+    let told = c in
+    let a = told.args in
+    let s = started a.w a.h a.y a.other a.first.now a.first.ref_ptr a.second.now a.second.ref_ptr _ (sym told.blink_start.ensures ∙ c.from-1.given.1) in
     (s.1, blink-ok a.w a.h a.y (length a.first.now) (length a.second.now) s.0)
 
-mul-to : tie.Need-overflow-mul-to
+mul-to : tie.Need-overflow_mul-to
 mul-to c = omega (arith, accepted c)
 
-add-to : tie.Need-overflow-add-to
+add-to : tie.Need-overflow_add-to
 add-to c = omega (arith, accepted c)
 
-sub-result : tie.Need-overflow-sub-result
+sub-result : tie.Need-slice_bounds-result-count
 sub-result c = search rules
 
-part-result-start : tie.Need-slice-bounds-result-start
+part-result-start : tie.Need-slice_bounds-result-start
 part-result-start c = search rules
 
-part-result-end : tie.Need-slice-bounds-result-end
+part-result-end : tie.Need-slice_bounds-result-end
 part-result-end c = omega (arith, accepted c.before)
 
-sub-result-2 : tie.Need-overflow-sub-result-2
+sub-result-2 : tie.Need-slice_bounds-result-count-else-other
 sub-result-2 c = search rules
 
-part-result-start-2 : tie.Need-slice-bounds-result-start-2
-part-result-start-2 c = search rules
-
-part-result-end-2 : tie.Need-slice-bounds-result-end-2
-part-result-end-2 c = omega (arith, accepted c.before)
-
-returns-2 : tie.Need-returns-2
+returns-2 : tie.Need-returns-then-other
 returns-2 c =
-    let from = c.before.before.before in
-    let told = from.before.before in
-    let a = told.before.before.before.args in
+    let from = c in
+    let told = from in
+    let a = told.args in
     part-is a.w a.h a.y a.other a.first.now a.first.ref_ptr a.second.now a.second.ref_ptr _ a.second.now a.second.ref_ptr
-    (sym told.blink-start.ensures ∙ from.from.given.1) (rw c.before.if1.true) (rw c.before.if1.true)
+    (sym told.blink_start.ensures ∙ from.from-1.given.1) (rw c.if-other.true) (rw c.if-other.true)
 
-returns-3 : tie.Need-returns-3
+returns-3 : tie.Need-returns-else-other
 returns-3 c =
-    let from = c.before.before.before in
-    let told = from.before.before in
-    let a = told.before.before.before.args in
+    let from = c in
+    let told = from in
+    let a = told.args in
     part-is a.w a.h a.y a.other a.first.now a.first.ref_ptr a.second.now a.second.ref_ptr _ a.first.now a.first.ref_ptr
-    (sym told.blink-start.ensures ∙ from.from.given.1) (rw c.before.if1.false) (rw c.before.if1.false)
+    (sym told.blink_start.ensures ∙ from.from-1.given.1) (rw c.if-other.false) (rw c.if-other.false)
 
-pub blink-row-spec : {M : Type 1} → statement M
-blink-row-spec =
+pub blink_row_spec : {M : Type 1} → statement M
+blink_row_spec =
     tie.close
     (tie.spec
     blink-start-requires
@@ -91,7 +85,5 @@ blink-row-spec =
     part-result-start
     part-result-end
     sub-result-2
-    part-result-start-2
-    part-result-end-2
     returns-2
     returns-3)

@@ -14,24 +14,24 @@ use Rattle.held_numbers.proofs.BadLaws.{bound-is, bound-small, held_first, held-
 use Rattle.held_numbers.proofs.bad_held.Statement.{statement}
 use Rattle.held_numbers.proofs.bad_held.Tie as tie
 
-bracket-of-requires : tie.Need-bracket-of-requires
+bracket-of-requires : tie.Need-bracket_of-b-requires
 bracket-of-requires c κs = search rules
 
-bad-bracket-requires : tie.Need-bad-bracket-requires
+bad-bracket-requires : tie.Need-bad_bracket-requires
 bad-bracket-requires c κs = search rules
 
-returns : tie.Need-returns
+returns : tie.Need-returns-then-bad_bracket
 returns c =
-    let b = c.before.before in
-    held_first b.before.args.held.now b.bracket-of.result b.bracket-of.ensures (sym c.before.bad-bracket.ensures ∙ c.if1.true)
+    let b = c in
+    held_first b.args.held.now b.bracket_of-b.result b.bracket_of-b.ensures (sym c.bad_bracket.ensures ∙ c.if-bad_bracket.true)
 
 -- the bracket that was read is within its limits
-module _ (c : tie.Else1) where
+module _ (c : tie.Else-bad_bracket) where
   abbrev B : Bracket
-  B = c.before.before.bracket-of.result
+  B = c.bracket_of-b.result
 
   fine : bad_bracket B ≡ false
-  fine = sym c.before.bad-bracket.ensures ∙ c.if1.false
+  fine = sym c.bad_bracket.ensures ∙ c.if-bad_bracket.false
 
   limits : BracketOk B
   limits = bracket-ok B fine
@@ -39,32 +39,32 @@ module _ (c : tie.Else1) where
   bound : 2 * 2 ^ B.s % 2 ^ 32 ≡ 2 ^ suc B.s
   bound = bound-is B.s limits.shape.halvings
 
-shl_bound : tie.Need-overflow-shl-bound
+shl_bound : tie.Need-overflow_shl-bound
 shl_bound c = let k = (limits c).shape.halvings in omega arith
 
-sub-bound : tie.Need-overflow-sub-bound
+sub-bound : tie.Need-overflow_sub-bound
 sub-bound c = rw (bound c) (pow_pos (suc (B c).s))
 
-pairs-in-requires : tie.Need-pairs-in-requires
+pairs-in-requires : tie.Need-pairs_in-requires
 pairs-in-requires c κs = search rules
 
-some-far-requires : tie.Need-some-far-requires
+some-far-requires : tie.Need-some_far-requires
 some-far-requires c κs =
-    let e = c.before in
-    let k = (limits e).frames in
-    let n = c.pairs-in.ensures in
-    ((omega arith, omega arith), rw (bound e) (bound-small (B e).s (limits e).shape.halvings))
+    let e = c in
+    let k = (limits e.before).frames in
+    let n = c.pairs_in.ensures in
+    ((omega arith, omega arith), rw (bound e.before) (bound-small (B e.before).s (limits e.before).shape.halvings))
 
-returns-2 : tie.Need-returns-2
+returns-2 : tie.Need-returns
 returns-2 c =
-    let e = c.before.before in
-    let b = e.before.before in
-    let l = b.before.args.held.now in
-    held-pairs l (B e) b.bracket-of.ensures (fine e) c.some-far.result
-    (c.some-far.ensures ∙ ap (λ (n : ℕ). some_far (n - 1) (held_pair l) c.before.pairs-in.result) (bound e) ∙ rw c.before.pairs-in.ensures)
+    let e = c in
+    let b = e in
+    let l = b.args.held.now in
+    held-pairs l (B e.before.before) b.bracket_of-b.ensures (fine e.before.before) c.some_far.result
+    (c.some_far.ensures ∙ ap (λ (n : ℕ). some_far (n - 1) (held_pair l) c.pairs_in.result) (bound e.before.before) ∙ rw c.pairs_in.ensures)
 
-pub bad-held-spec : {M : Type 1} → statement M
-bad-held-spec =
+pub bad_held_spec : {M : Type 1} → statement M
+bad_held_spec =
     tie.close
     (tie.spec
     bracket-of-requires

@@ -3,14 +3,14 @@ use Rattle.held_numbers.proofs.NumberLaws.{natural-below, natural-fits, natural-
 use Rattle.held_numbers.proofs.natural.Statement.{statement}
 use Rattle.held_numbers.proofs.natural.Tie as tie
 
-returns : tie.Need-returns
-returns c = natural-below c.before.args.x c.before.ranges.x c.if1.true
+returns : tie.Need-returns-then-x-lt0
+returns c = natural-below c.args.x c.ranges.x c.if-x-lt0.true
 
-cast-result : tie.Need-overflow-cast-result
-cast-result c = natural-fits c.before.args.x c.before.ranges.x c.if1.false
+cast-result : tie.Need-overflow_cast-result
+cast-result c = natural-fits c.args.x c.ranges.x c.if-x-lt0.false
 
-returns-2 : tie.Need-returns-2
-returns-2 c = natural-above c.before.args.x c.before.ranges.x c.if1.false
+returns-2 : tie.Need-returns
+returns-2 c = natural-above c.args.x c.ranges.x c.if-x-lt0.false
 
-pub natural-spec : {M : Type 1} → statement M
-natural-spec = tie.close (tie.spec returns cast-result returns-2)
+pub natural_spec : {M : Type 1} → statement M
+natural_spec = tie.close (tie.spec returns cast-result returns-2)

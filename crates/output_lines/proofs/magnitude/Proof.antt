@@ -10,27 +10,27 @@ use Rattle.output_lines.proofs.MagnitudeLaws.{read32, wide_fits, above-size, opp
 use Rattle.output_lines.proofs.magnitude.Statement.{statement}
 use Rattle.output_lines.proofs.magnitude.Tie as tie
 
-cast-result : tie.Need-overflow-cast-result
-cast-result c = wide_fits c.before.args.n c.before.ranges.n
+cast-result : tie.Need-overflow_cast-result
+cast-result c = wide_fits c.args.n c.ranges.n
 
-sub-result : tie.Need-overflow-sub-result
-sub-result c = opposite-fits c.before.args.n c.before.ranges.n c.if1.true
+sub-result : tie.Need-overflow_sub-result
+sub-result c = opposite-fits c.args.n c.ranges.n c.if-n-lt0.true
 
-cast-result-2 : tie.Need-overflow-cast-result-2
+cast-result-2 : tie.Need-overflow_cast-result-then-n-lt0
 cast-result-2 c =
     subst (λ (z : ℤ). T (non_neg z) × Fits w32 (nat_abs z))
-    (sym (opposite-read c.before.args.n c.before.ranges.n c.if1.true))
-    (tt, Fits-nat_abs tt c.before.ranges.n)
+    (sym (opposite-read c.args.n c.ranges.n c.if-n-lt0.true))
+    (tt, Fits-nat_abs tt c.ranges.n)
 
-returns : tie.Need-returns
-returns c = ap nat_abs (opposite-read c.before.args.n c.before.ranges.n c.if1.true)
+returns : tie.Need-returns-then-n-lt0
+returns c = ap nat_abs (opposite-read c.args.n c.ranges.n c.if-n-lt0.true)
 
-cast-result-3 : tie.Need-overflow-cast-result-3
-cast-result-3 c = above-size c.before.args.n c.before.ranges.n c.if1.false
+cast-result-3 : tie.Need-overflow_cast-result-2
+cast-result-3 c = above-size c.args.n c.ranges.n c.if-n-lt0.false
 
-returns-2 : tie.Need-returns-2
-returns-2 c = ap nat_abs (read32 c.before.args.n c.before.ranges.n)
+returns-2 : tie.Need-returns
+returns-2 c = ap nat_abs (read32 c.args.n c.ranges.n)
 
-pub magnitude-spec : {M : Type 1} → statement M
-magnitude-spec =
+pub magnitude_spec : {M : Type 1} → statement M
+magnitude_spec =
     tie.close (tie.spec cast-result sub-result cast-result-2 returns cast-result-3 returns-2)

@@ -10,47 +10,39 @@ use Rattle.output_lines.proofs.put_refused.Statement.{statement}
 use Rattle.output_lines.proofs.put_refused.Tie as tie
 
 -- what stands in the buffer after the first piece, and after the number
-begun : (c : tie.After-put) → Wrote 0 (114 ∷ 101 ∷ 102 ∷ 117 ∷ 115 ∷ 101 ∷ 100 ∷ 32 ∷ []) c.before.before.before.before.args.out.now c.put.result c.put.new.0
-begun c = wrote_one 0 _ _ _ _ c.put.ensures
+begun : (c : tie.After-put-at) → Wrote 0 (114 ∷ 101 ∷ 102 ∷ 117 ∷ 115 ∷ 101 ∷ 100 ∷ 32 ∷ []) c.args.out.now c.put-at.result c.put-at.new.out
+begun c = wrote_one 0 _ _ _ _ c.put-at.ensures
 
-numbered : (c : tie.After-put-number) → Wrote 0 ((114 ∷ 101 ∷ 102 ∷ 117 ∷ 115 ∷ 101 ∷ 100 ∷ 32 ∷ []) ++ digits
-    c.before.before.before.before.before.before.before.before.args.n) c.before.before.before.before.before.before.before.before.args.out.now
-    c.put-number.result c.put-number.new.0
-numbered c = wrote_then 0 _ _ _ _ _ _ _ (begun c.before.before.before.before) c.put-number.ensures
+numbered : (c : tie.After-put_number-end) → Wrote 0 ((114 ∷ 101 ∷ 102 ∷ 117 ∷ 115 ∷ 101 ∷ 100 ∷ 32 ∷ []) ++ digits
+    c.args.n) c.args.out.now
+    c.put_number-end.result c.put_number-end.new.out
+numbered c = wrote_then 0 _ _ _ _ _ _ _ (begun c.before.before.before.before) c.put_number-end.ensures
 
-slice-aggregate-put : tie.Need-slice-aggregate-put
-slice-aggregate-put c = search rules
-
-put-requires : tie.Need-put-requires
+put-requires : tie.Need-put-at-requires
 put-requires c κs = search rules
 
-put-number-requires : tie.Need-put-number-requires
+put-number-requires : tie.Need-put_number-end-requires
 put-number-requires c κs =
     let w = begun c.before.before.before in
-    omega (arith, digits-at-most-ten c.before.before.before.before.before.before.before.args.n)
+    omega (arith, digits-at-most-ten c.args.n)
 
-slice-aggregate-put-2 : tie.Need-slice-aggregate-put-2
-slice-aggregate-put-2 c = search rules
-
-put-requires-2 : tie.Need-put-requires-2
+put-requires-2 : tie.Need-put-requires
 put-requires-2 c κs =
-    let w = numbered c.before.before.before.before in
-    omega (arith, digits-at-most-ten c.before.before.before.before.before.before.before.before.before.before.before.before.args.n)
+    let w = numbered c.before.before.before.before.before in
+    omega (arith, digits-at-most-ten c.args.n)
 
-same_length : tie.Need-same-length
+same_length : tie.Need-shape_of-out
 same_length c = search rules
 
 returns : tie.Need-returns
-returns c = wrote_then 0 _ _ _ _ _ _ _ (numbered c.before.before.before.before.before.before.before) c.before.before.put2.ensures
+returns c = wrote_then 0 _ _ _ _ _ _ _ (numbered c.before.before.before.before.before.before.before.before) c.put.ensures
 
-pub put-refused-spec : {M : Type 1} → statement M
-put-refused-spec =
+pub put_refused_spec : {M : Type 1} → statement M
+put_refused_spec =
     tie.close
     (tie.spec
-    slice-aggregate-put
     put-requires
     put-number-requires
-    slice-aggregate-put-2
     put-requires-2
     same_length
     returns)

@@ -10,92 +10,92 @@ use Rattle.overlap.proofs.OverlapLaws.{overlap-none, overlap-whole, frame-words}
 use Rattle.overlap.proofs.overlap_frame.Statement.{statement}
 use Rattle.overlap.proofs.overlap_frame.Tie as tie
 
-abbrev start : tie.After-larger → tie.Start
+abbrev start : tie.After-larger-most → tie.Start
 start c = c.before.before.before.before.before.before
 
-abbrev up : tie.After-larger → ℕ
-up c = c.before.biased.result
+abbrev up : tie.After-larger-most → ℕ
+up c = c.biased-up.result
 
-abbrev top : tie.After-larger → ℕ
-top c = c.larger.result - bias
+abbrev top : tie.After-larger-most → ℕ
+top c = c.larger-most.result - bias
 
-abbrev from : tie.After-larger → ℕ
-from c = c.larger.result - up c
+abbrev from : tie.After-larger-most → ℕ
+from c = c.larger-most.result - up c
 
-up_is : (c : tie.After-larger) → up c ≡ bias_of (start c).args.dy
-up_is c = c.before.biased.ensures ∙ ap bias_of (to_z-of_z (start c).ranges.dy)
+up_is : (c : tie.After-larger-most) → up c ≡ bias_of (start c).args.dy
+up_is c = c.biased-up.ensures ∙ ap bias_of (to_z-of_z (start c).ranges.dy)
 
-top-is : (c : tie.After-larger) → top c ≡ max (up c) bias - bias
-top-is c = ap (λ (m : ℕ). m - bias) c.larger.ensures
+top-is : (c : tie.After-larger-most) → top c ≡ max (up c) bias - bias
+top-is c = ap (λ (m : ℕ). m - bias) c.larger-most.ensures
 
-from_is : (c : tie.After-larger) → from c ≡ max (up c) bias - up c
-from_is c = ap (λ (m : ℕ). m - up c) c.larger.ensures
+from_is : (c : tie.After-larger-most) → from c ≡ max (up c) bias - up c
+from_is c = ap (λ (m : ℕ). m - up c) c.larger-most.ensures
 
-words : (c : tie.After-row-words)
-    → let u = c.before.before in
-    let h = (start u).args.h in
-    let n = c.row_words.result in
-    (top u * n + from u * n + (h - (top u + from u)) * n ≡ h * n) × ((row_words (start u).args.w * h ≡ h * n) × (h * n ≤ 262144))
+words : (c : tie.After-row_words-n)
+    → let u = c in
+    let h = (start u.before.before).args.h in
+    let n = c.row_words-n.result in
+    (top u.before.before * n + from u.before.before * n + (h - (top u.before.before + from u.before.before)) * n ≡ h * n) × ((row_words (start u.before.before).args.w * h ≡ h * n) × (h * n ≤ 262144))
 words c =
-    let u = c.before.before in
-    let s = start u in
-    frame-words s.args.w s.args.h c.row_words.result (top u) (from u) c.row_words.ensures s.pre.0 s.pre.1.0 c.before.if1.false
+    let u = c in
+    let s = start u.before.before in
+    frame-words s.args.w s.args.h c.row_words-n.result (top u.before.before) (from u.before.before) c.row_words-n.ensures s.requires.0 s.requires.1.0 c.if-h-top.false
 
-biased-requires : tie.Need-biased-requires
+biased-requires : tie.Need-biased-up-requires
 biased-requires c κs = search rules
 
-larger-requires : tie.Need-larger-requires
+larger-requires : tie.Need-larger-most-requires
 larger-requires c κs = search rules
 
-sub-top : tie.Need-overflow-sub-top
+sub-top : tie.Need-overflow_sub-top
 sub-top c = search rules
 
-sub-from : tie.Need-overflow-sub-from
+sub-from : tie.Need-overflow_sub-from
 sub-from c = search rules
 
-add-if1 : tie.Need-overflow-add-if1
+add-if1 : tie.Need-overflow_add-top
 add-if1 c = search rules
 
-returns : tie.Need-returns
+returns : tie.Need-returns-then-h-top
 returns c =
-    let u = c.before in
-    let s = start u in
+    let u = c in
+    let s = start u.before in
     let a = s.args in
-    overlap-none a.w a.h a.dy a.t1.now a.e1.now a.t2.now a.e2.now (up u) (top u) (from u) s.fits.dy (up_is u) (top-is u) (from_is u)
-    c.if1.true
+    overlap-none a.w a.h a.dy a.t1.now a.e1.now a.t2.now a.e2.now (up u.before) (top u.before) (from u.before) s.ranges.dy (up_is u.before) (top-is u.before) (from_is u.before)
+    c.if-h-top.true
 
-row-words-requires : tie.Need-row-words-requires
+row-words-requires : tie.Need-row_words-n-requires
 row-words-requires c κs = search rules
 
-add-rows : tie.Need-overflow-add-rows
+add-rows : tie.Need-overflow_add-rows
 add-rows c = search rules
 
-sub-rows : tie.Need-overflow-sub-rows
+sub-rows : tie.Need-overflow_sub-rows
 sub-rows c = search rules
 
-mul-run-tally : tie.Need-overflow-mul-run-tally
+mul-run-tally : tie.Need-overflow_mul-top
 mul-run-tally c = omega (arith, words c)
 
-mul-run-tally-2 : tie.Need-overflow-mul-run-tally-2
+mul-run-tally-2 : tie.Need-overflow_mul-from
 mul-run-tally-2 c = omega (arith, words c)
 
-mul-run-tally-3 : tie.Need-overflow-mul-run-tally-3
+mul-run-tally-3 : tie.Need-overflow_mul-rows
 mul-run-tally-3 c = omega (arith, words c)
 
-run-tally-requires : tie.Need-run-tally-requires
-run-tally-requires c κs = let s = start c.before.before in (omega (arith, words c, s.pre.1.1.0), s.pre.1.1.1.1)
+run-tally-requires : tie.Need-run_tally-requires
+run-tally-requires c κs = let s = start c.before.before in (omega (arith, words c, s.requires.1.1.0), s.requires.1.1.1.1)
 
-returns-2 : tie.Need-returns-2
+returns-2 : tie.Need-returns
 returns-2 c =
-    let u = c.before.before.before in
-    let s = start u in
+    let u = c in
+    let s = start u.before.before.before in
     let a = s.args in
-    let n = c.before.row_words in
-    overlap-whole a.w a.h a.dy a.t1.now a.e1.now a.t2.now a.e2.now (up u) (top u) (from u) s.fits.dy (up_is u) (top-is u) (from_is u)
-    s.pre.1.1.1.0 c.before.before.if1.false n.result c.run-tally.result n.ensures c.run-tally.ensures
+    let n = c.row_words-n in
+    overlap-whole a.w a.h a.dy a.t1.now a.e1.now a.t2.now a.e2.now (up u.before.before.before) (top u.before.before.before) (from u.before.before.before) s.ranges.dy (up_is u.before.before.before) (top-is u.before.before.before) (from_is u.before.before.before)
+    s.requires.1.1.1.0 c.if-h-top.false n.result c.run_tally.result n.ensures c.run_tally.ensures
 
-pub overlap-frame-spec : {M : Type 1} → statement M
-overlap-frame-spec =
+pub overlap_frame_spec : {M : Type 1} → statement M
+overlap_frame_spec =
     tie.close
     (tie.spec
     biased-requires

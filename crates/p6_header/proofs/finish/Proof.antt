@@ -7,38 +7,38 @@ use borrow.Author.Rules.{rules}
 use Rattle.p6_header.proofs.finish.Statement.{statement}
 use Rattle.p6_header.proofs.finish.Tie as tie
 
-returns : tie.Need-returns
+returns : tie.Need-returns-then-largest-ne-LARGEST
 unfolding ending
-returns c = simp (ne_eqb c.before.before.args.largest 255 c.if1.true)
+returns c = simp (ne_eqb c.args.largest 255 c.if-largest-ne-LARGEST.true)
 
-returns-2 : tie.Need-returns-2
+returns-2 : tie.Need-returns-then-file-at
 unfolding ending
 returns-2 c =
-    let a = c.before.before.before.args in
-    simp (eq-eqb a.largest 255 c.before.if1.false, white-past a.file.now a.at c.if2.true)
+    let a = c.args in
+    simp (eq-eqb a.largest 255 c.if-largest-ne-LARGEST.false, white-past a.file.now a.at c.if-file-at.true)
 
-shared-slice-read-last : tie.Need-shared-slice-read-last
+shared-slice-read-last : tie.Need-bounds-file-at
 shared-slice-read-last c = search rules
 
-is-white-requires : tie.Need-is-white-requires
+is-white-requires : tie.Need-is_white-requires
 is-white-requires c κs = search rules
 
-returns-3 : tie.Need-returns-3
+returns-3 : tie.Need-returns-then-not-is_white
 unfolding ending
 returns-3 c =
-    let else2 = c.before.before.before in
-    let a = else2.before.before.before.args in
-    simp (eq-eqb a.largest 255 else2.before.if1.false, sym c.before.is_white.ensures ∙ not-true _ c.if3.true)
+    let else2 = c in
+    let a = else2.args in
+    simp (eq-eqb a.largest 255 else2.if-largest-ne-LARGEST.false, sym c.is_white.ensures ∙ c.if-not-is_white.true)
 
-add_start : tie.Need-overflow-add-start
+add_start : tie.Need-overflow_add-start
 add_start c = search rules
 
-returns-4 : tie.Need-returns-4
+returns-4 : tie.Need-returns
 unfolding ending
 returns-4 c =
-    let else2 = c.before.before.before in
-    let a = else2.before.before.before.args in
-    simp (eq-eqb a.largest 255 else2.before.if1.false, sym c.before.is_white.ensures ∙ not-false _ c.if3.false)
+    let else2 = c in
+    let a = else2.args in
+    simp (eq-eqb a.largest 255 else2.if-largest-ne-LARGEST.false, sym c.is_white.ensures ∙ c.if-not-is_white.false)
 
 pub finish_spec : {M : Type 1} → statement M
 finish_spec =

@@ -8,42 +8,42 @@ use borrow.Author.Rules.{rules}
 use Rattle.p6_whitespace.proofs.blank_length.Statement.{statement}
 use Rattle.p6_whitespace.proofs.blank_length.Tie as tie
 
-returns : tie.Need-returns
-returns c = sym (blank-past c.before.before.args.bytes.now c.if1.true)
+returns : tie.Need-returns-then-bytes-eq0
+returns c = sym (blank-past c.args.bytes.now c.if-bytes-eq0.true)
 
-returns-2 : tie.Need-returns-2
+returns-2 : tie.Need-returns-then-is_white
 unfolding blank_length
-returns-2 c = simp (sym c.before.is_white.ensures ∙ c.if2.true)
+returns-2 c = simp (sym c.is_white.ensures ∙ c.if-is_white.true)
 
-returns-3 : tie.Need-returns-3
+returns-3 : tie.Need-returns-then-bytes-ne-HASH
 unfolding blank_length
 returns-3 c =
-    let e = c.before.before in
-    let b = get_or e.before.before.before.before.before.args.bytes.now 0 0 in
-    simp (sym e.before.is_white.ensures ∙ e.if2.false, ne_eqb b 0x23 c.if3.true)
+    let e = c in
+    let b = get_or e.args.bytes.now 0 0 in
+    simp (sym e.is_white.ensures ∙ e.if-is_white.false, ne_eqb b 0x23 c.if-bytes-ne-HASH.true)
 
-returns-4 : tie.Need-returns-4
+returns-4 : tie.Need-returns
 unfolding blank_length
 returns-4 c =
-    let t = c.before in
-    let e = t.before.before in
-    let b = get_or e.before.before.before.before.before.args.bytes.now 0 0 in
-    simp (sym e.before.is_white.ensures ∙ e.if2.false, eq-eqb b 0x23 t.if3.false) c.comment-length.ensures
+    let t = c in
+    let e = t in
+    let b = get_or e.args.bytes.now 0 0 in
+    simp (sym e.is_white.ensures ∙ e.if-is_white.false, eq-eqb b 0x23 t.if-bytes-ne-HASH.false) c.comment_length.ensures
 
-shared-slice-read-is-white : tie.Need-shared-slice-read-is-white
+shared-slice-read-is-white : tie.Need-bounds-bytes-0
 shared-slice-read-is-white c = search rules
 
-is-white-requires : tie.Need-is-white-requires
+is-white-requires : tie.Need-is_white-requires
 is-white-requires c κs = search rules
 
-shared-slice-read-if3 : tie.Need-shared-slice-read-if3
+shared-slice-read-if3 : tie.Need-bounds-bytes-0-2
 shared-slice-read-if3 c = search rules
 
-comment-length-requires : tie.Need-comment-length-requires
+comment-length-requires : tie.Need-comment_length-requires
 comment-length-requires c κs = search rules
 
-pub blank-length-spec : {M : Type 1} → statement M
-blank-length-spec =
+pub blank_length_spec : {M : Type 1} → statement M
+blank_length_spec =
     tie.close
     (tie.spec
     returns

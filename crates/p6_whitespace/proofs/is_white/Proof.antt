@@ -4,27 +4,27 @@ use Rattle.p6_whitespace.specs.Whitespace.{is_white}
 use Rattle.p6_whitespace.proofs.is_white.Statement.{statement}
 use Rattle.p6_whitespace.proofs.is_white.Tie as tie
 
-returns : tie.Need-returns
+returns : tie.Need-returns-then-b-eq9
 unfolding is_white
-returns c = simp (eq-eqb c.before.args.b 9 c.if1.true)
+returns c = simp (eq-eqb c.args.b 9 c.if-b-eq9.true)
 
-returns-2 : tie.Need-returns-2
+returns-2 : tie.Need-returns-then-b-eq10
 unfolding is_white
 returns-2 c =
-    let b = c.before.before.args.b in
-    simp (ne_eqb b 9 c.before.if1.false, eq-eqb b 10 c.if2.true)
+    let b = c.args.b in
+    simp (ne_eqb b 9 c.if-b-eq9.false, eq-eqb b 10 c.if-b-eq10.true)
 
-returns-3 : tie.Need-returns-3
+returns-3 : tie.Need-returns-then-b-eq13
 unfolding is_white
 returns-3 c =
-    let b = c.before.before.before.args.b in
-    simp (ne_eqb b 9 c.before.before.if1.false, ne_eqb b 10 c.before.if2.false, eq-eqb b 13 c.if3.true)
+    let b = c.args.b in
+    simp (ne_eqb b 9 c.if-b-eq9.false, ne_eqb b 10 c.if-b-eq10.false, eq-eqb b 13 c.if-b-eq13.true)
 
-returns-4 : tie.Need-returns-4
+returns-4 : tie.Need-returns-else-b-eq13
 unfolding is_white
 returns-4 c =
-    let b = c.before.before.before.args.b in
-    simp (ne_eqb b 9 c.before.before.if1.false, ne_eqb b 10 c.before.if2.false, ne_eqb b 13 c.if3.false)
+    let b = c.args.b in
+    simp (ne_eqb b 9 c.if-b-eq9.false, ne_eqb b 10 c.if-b-eq10.false, ne_eqb b 13 c.if-b-eq13.false)
 
-pub is-white-spec : {M : Type 1} → statement M
-is-white-spec = tie.close (tie.spec returns returns-2 returns-3 returns-4)
+pub is_white_spec : {M : Type 1} → statement M
+is_white_spec = tie.close (tie.spec returns returns-2 returns-3 returns-4)

@@ -49,9 +49,9 @@ returns-2 c =
     let f = c.pack_frame in
     rw e (record {
       answered = refl;
-      thresholds_are = packed-plane a.w a.h _ _ a.thresholds.now f.new.1.1.1.1.1.1.0 (threshold-plane a.threshold a.w a.grey.now) k.room1 f.ensures.0;
+      thresholds_are = packed-plane a.w a.h _ _ a.thresholds.now f.new.thresholds (threshold-plane a.threshold a.w a.grey.now) k.room1 f.ensures.0;
       exclusions_are =
-          packed-plane a.w a.h _ _ a.exclusions.now f.new.1.1.1.1.1.1.1.0 (exclusion-plane a.threshold a.tolerance a.w a.grey.now bytes ∙ ends) k.room2 f.ensures.1;
+          packed-plane a.w a.h _ _ a.exclusions.now f.new.exclusions (exclusion-plane a.threshold a.tolerance a.w a.grey.now bytes ∙ ends) k.room2 f.ensures.1;
     })
 
 pub bitmaps_spec : {M : Type 1} → statement M

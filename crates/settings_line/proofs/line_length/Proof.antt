@@ -15,44 +15,44 @@ use Rattle.settings_line.proofs.line_length.Tie as tie
 abbrev in_line : ℕ → Bool
 in_line b = not (eqb b 10)
 
-abbrev invariant-loop : tie.invariant-loop
+abbrev invariant-loop : tie.invariant-loop-n
 invariant-loop input n₀ n = (n ≤ length input) × (leading in_line input ≡ n + leading in_line (drop n input))
 
-abbrev decreases-loop : tie.decreases-loop
+abbrev decreases-loop : tie.decreases-loop-n
 decreases-loop input n₀ n = length input - n
 
-loop-holds : tie.Need-loop-init invariant-loop decreases-loop
+loop-holds : tie.Need-loop-n-init invariant-loop decreases-loop
 loop-holds c = (omega arith, omega arith)
 
-shared-slice-read-if1 : tie.Need-shared-slice-read-if1 invariant-loop decreases-loop
+shared-slice-read-if1 : tie.Need-bounds-input-n invariant-loop decreases-loop
 shared-slice-read-if1 c = search rules
 
-returns : tie.Need-returns invariant-loop decreases-loop
+returns : tie.Need-returns-then-input-n-eq10 invariant-loop decreases-loop
 returns c =
-    let l = c.before.before.before.loop in
-    let e = leading-off in_line c.before.before.before.before.args.input.now l.n (omega arith) (ap not (eq-eqb _ 10 c.if1.true)) in
+    let l = c.loop-n in
+    let e = leading-off in_line c.args.input.now l.n (omega arith) (ap not (eq-eqb _ 10 c.if-input-n-eq10.true)) in
     omega arith
 
-add-n : tie.Need-overflow-add-n invariant-loop decreases-loop
+add-n : tie.Need-overflow_add-n invariant-loop decreases-loop
 add-n c = search rules
 
-loop-less : tie.Need-loop-smaller invariant-loop decreases-loop
+loop-less : tie.Need-loop-n-smaller invariant-loop decreases-loop
 loop-less c = search rules
 
-loop-again : tie.Need-loop-preserved invariant-loop decreases-loop
+loop-again : tie.Need-loop-n-preserved invariant-loop decreases-loop
 loop-again c =
-    let l = c.before.before.before.loop in
-    let e = leading-on in_line c.before.before.before.before.args.input.now l.n (omega arith) (ap not (ne_eqb _ 10 c.if1.false)) in
+    let l = c.loop-n in
+    let e = leading-on in_line c.args.input.now l.n (omega arith) (ap not (ne_eqb _ 10 c.if-input-n-eq10.false)) in
     omega arith
 
-returns-2 : tie.Need-returns-2 invariant-loop decreases-loop
+returns-2 : tie.Need-returns invariant-loop decreases-loop
 returns-2 c =
-    let l = c.before.loop in
-    let e = leading_end in_line c.before.before.args.input.now l.n (omega arith) in
+    let l = c.loop-n in
+    let e = leading_end in_line c.args.input.now l.n (omega arith) in
     omega arith
 
-pub line-length-spec : {M : Type 1} → statement M
-line-length-spec =
+pub line_length_spec : {M : Type 1} → statement M
+line_length_spec =
     tie.close
     (tie.spec
     invariant-loop

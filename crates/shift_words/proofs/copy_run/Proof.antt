@@ -13,61 +13,61 @@ use Rattle.shift_words.specs.Runs.{RunAt}
 use Rattle.shift_words.proofs.copy_run.Statement.{statement}
 use Rattle.shift_words.proofs.copy_run.Tie as tie
 
-abbrev invariant-loop : tie.invariant-loop
+abbrev invariant-loop : tie.invariant-loop-k
 invariant-loop src from dst₀ to m h first end k₀ dst k = (first ≤ k) × ((k ≤ end) × RunAt src from m h to first k dst₀ dst)
 
-abbrev decreases-loop : tie.decreases-loop
+abbrev decreases-loop : tie.decreases-loop-k
 decreases-loop src from dst₀ to m h first end k₀ dst k = end - k
 
 -- each word is interior to all rows taken as one
-inside : (c : tie.In-loop invariant-loop decreases-loop) → let a = c.before.before.args in Interior (a.m.n * a.h * 64 / 64) a.m.q c.before.loop.k
+inside : (c : tie.In-loop-k invariant-loop decreases-loop) → let a = c.args in Interior (a.m.n * a.h * 64 / 64) a.m.q c.loop-k.k
 inside c =
-    let s = c.before.before in
+    let s = c in
     let run = s.requires.0 in
-    run_inside s.args.m s.args.h c.before.loop.k run.moves run.some.0 run.some.1 (omega arith) (omega arith)
+    run_inside s.args.m s.args.h c.loop-k.k run.moves run.some.0 run.some.1 (omega arith) (omega arith)
 
-loop-holds : tie.Need-loop-init invariant-loop decreases-loop
+loop-holds : tie.Need-loop-k-init invariant-loop decreases-loop
 loop-holds c =
     let a = c.args in
     (omega arith, (omega arith, part_none (moved_word a.src.now a.from (a.m.n * a.h * 64) a.m.q a.m.r) a.dst.now a.to a.first))
 
-add-dst : tie.Need-overflow-add-dst invariant-loop decreases-loop
+add-dst : tie.Need-overflow_add-dst invariant-loop decreases-loop
 add-dst c = omega (arith, inside c)
 
-add-dst-2 : tie.Need-overflow-add-dst-2 invariant-loop decreases-loop
+add-dst-2 : tie.Need-overflow_add-dst-in-loop-k invariant-loop decreases-loop
 add-dst-2 c = omega (arith, inside c)
 
-sub-dst : tie.Need-overflow-sub-dst invariant-loop decreases-loop
+sub-dst : tie.Need-overflow_sub-dst invariant-loop decreases-loop
 sub-dst c = omega (arith, inside c.before)
 
-mul-dst : tie.Need-overflow-mul-dst invariant-loop decreases-loop
+mul-dst : tie.Need-offset_bounds-src-from invariant-loop decreases-loop
 mul-dst c = omega (arith, inside c.before)
 
-shared-slice-read-dst : tie.Need-shared-slice-read-dst invariant-loop decreases-loop
+shared-slice-read-dst : tie.Need-bounds-src-from invariant-loop decreases-loop
 shared-slice-read-dst c = omega (arith, inside c.before.before)
 
-add-dst-3 : tie.Need-overflow-add-dst-3 invariant-loop decreases-loop
+add-dst-3 : tie.Need-overflow_add-dst-in-loop-k-2 invariant-loop decreases-loop
 add-dst-3 c = omega (arith, inside c.before.before)
 
-mul-dst-2 : tie.Need-overflow-mul-dst-2 invariant-loop decreases-loop
+mul-dst-2 : tie.Need-offset_bounds-dst-to invariant-loop decreases-loop
 mul-dst-2 c = omega (arith, inside c.before.before)
 
-slice-write-dst : tie.Need-slice-write-dst invariant-loop decreases-loop
+slice-write-dst : tie.Need-bounds-dst-to invariant-loop decreases-loop
 slice-write-dst c = omega (arith, inside c.before.before)
 
-add-k : tie.Need-overflow-add-k invariant-loop decreases-loop
+add-k : tie.Need-overflow_add-k invariant-loop decreases-loop
 add-k c = omega (arith, inside c.before.before)
 
-loop-less : tie.Need-loop-smaller invariant-loop decreases-loop
+loop-less : tie.Need-loop-k-smaller invariant-loop decreases-loop
 loop-less c = search rules
 
-loop-again : tie.Need-loop-preserved invariant-loop decreases-loop
+loop-again : tie.Need-loop-k-preserved invariant-loop decreases-loop
 loop-again c =
-    let test = c.before.before in
-    let L = test.before.loop in
-    let s = test.before.before in
+    let test = c in
+    let L = test.loop-k in
+    let s = test in
     let a = s.args in
-    let n = inside test in
+    let n = inside test.before.before in
     let w : ℕ = a.m.n * a.h * 64 in
     let j : ℕ = a.from + L.k + 33554432 - a.m.q in
     let e : a.m.r ≡ 0 = s.requires.1 in (
@@ -75,22 +75,22 @@ loop-again c =
       (
         omega arith,
         part-more (moved_word a.src.now a.from w a.m.q a.m.r) a.dst.now L.dst a.to a.first L.k (get_or a.src.now j 0) L.invariant.0 (omega (arith, n)) L.invariant.1.1
-            (interior-moved a.src.now a.from w a.m.q a.m.r L.k j (get_or a.src.now j 0) (c.shared-slice-known.given j).fits s.requires.0.moves.bits
+            (interior-moved a.src.now a.from w a.m.q a.m.r L.k j (get_or a.src.now j 0) (c.shared_slice_known-1.given j).fits s.requires.0.moves.bits
             n refl (rw e (joined-zero (get_or a.src.now j 0) (get_or a.src.now (j - 1) 0)))),
       ),
     )
 
-same_length : tie.Need-same-length invariant-loop decreases-loop
+same_length : tie.Need-shape_of-dst invariant-loop decreases-loop
 same_length c = search rules
 
 returns : tie.Need-returns invariant-loop decreases-loop
 returns c =
-    let L = c.before.loop in
-    let e : L.k ≡ c.before.before.args.end = omega arith in
+    let L = c.loop-k in
+    let e : L.k ≡ c.args.end = omega arith in
     rw e at L.invariant.1.1
 
-pub copy-run-spec : {M : Type 1} → statement M
-copy-run-spec =
+pub copy_run_spec : {M : Type 1} → statement M
+copy_run_spec =
     tie.close
     (tie.spec
     invariant-loop

@@ -7,31 +7,31 @@ use borrow.Author.Rules.{rules}
 use Rattle.work_memory.proofs.shape_refusal.Statement.{statement}
 use Rattle.work_memory.proofs.shape_refusal.Tie as tie
 
-bad-size-requires : tie.Need-bad-size-requires
+bad-size-requires : tie.Need-bad_size-requires
 bad-size-requires c κs = search rules
 
-returns : tie.Need-returns
-returns c = simp (sym c.before.bad-size.ensures ∙ c.if1.true)
+returns : tie.Need-returns-then-bad_size
+returns c = simp (sym c.bad_size.ensures ∙ c.if-bad_size.true)
 
-returns-2 : tie.Need-returns-2
+returns-2 : tie.Need-returns-then-s-gt-MAX_HALVINGS
 unfolding bad_halvings
-returns-2 c = simp (sym c.before.before.bad-size.ensures ∙ c.before.if1.false, lt-ltb _ _ c.if2.true)
+returns-2 c = simp (sym c.bad_size.ensures ∙ c.if-bad_size.false, lt-ltb _ _ c.if-s-gt-MAX_HALVINGS.true)
 
-too-small-requires : tie.Need-too-small-requires
+too-small-requires : tie.Need-too_small-requires
 too-small-requires c κs = search rules
 
 lowest-requires : tie.Need-lowest-requires
 lowest-requires c κs = search rules
 
-returns-3 : tie.Need-returns-3
+returns-3 : tie.Need-returns
 unfolding bad_halvings
 returns-3 c =
-    let e = c.before.before in
-    let b = e.before.before in
-    simp (sym b.bad-size.ensures ∙ e.before.if1.false, le-ltb _ _ e.if2.false, ← c.before.too_small.ensures)
-    (rw (← or_else-none (4 when c.before.too_small.result)) c.lowest.ensures)
+    let e = c in
+    let b = e in
+    simp (sym b.bad_size.ensures ∙ e.if-bad_size.false, le-ltb _ _ e.if-s-gt-MAX_HALVINGS.false, ← c.too_small.ensures)
+    (rw (← or_else-none (4 when c.too_small.result)) c.lowest.ensures)
 
-pub shape-refusal-spec : {M : Type 1} → statement M
-shape-refusal-spec =
+pub shape_refusal_spec : {M : Type 1} → statement M
+shape_refusal_spec =
     tie.close
     (tie.spec bad-size-requires returns returns-2 too-small-requires lowest-requires returns-3)

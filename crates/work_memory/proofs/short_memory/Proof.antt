@@ -3,14 +3,14 @@ use borrow.Author.Rules.{rules}
 use Rattle.work_memory.proofs.short_memory.Statement.{statement}
 use Rattle.work_memory.proofs.short_memory.Tie as tie
 
-grey-memory-requires : tie.Need-grey-memory-requires
+grey-memory-requires : tie.Need-grey_memory-greys-requires
 grey-memory-requires c κs = search rules
 
-word-memory-requires : tie.Need-word-memory-requires
+word-memory-requires : tie.Need-word_memory-bitmaps-requires
 word-memory-requires c κs = search rules
 
 returns : tie.Need-returns
-returns c = simp (c.before.grey-memory.ensures, c.word-memory.ensures)
+returns c = simp (c.grey_memory-greys.ensures, c.word_memory-bitmaps.ensures)
 
-pub short-memory-spec : {M : Type 1} → statement M
-short-memory-spec = tie.close (tie.spec grey-memory-requires word-memory-requires returns)
+pub short_memory_spec : {M : Type 1} → statement M
+short_memory_spec = tie.close (tie.spec grey-memory-requires word-memory-requires returns)

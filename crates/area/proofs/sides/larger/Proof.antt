@@ -6,17 +6,17 @@ use Rattle.area.proofs.SideLaws.{read_back, tested}
 use Rattle.area.proofs.sides.larger.Statement.{statement}
 use Rattle.area.proofs.sides.larger.Tie as tie
 
-returns : tie.Need-returns
+returns : tie.Need-returns-then-a-b
 unfolding larger
 returns c =
-    let s = c.before in
-    read_back s.args.b s.ranges.b.sfits ∙ rw (tested s.args.a s.args.b true s.ranges.a.sfits s.ranges.b.sfits c.if1.true)
+    let s = c in
+    read_back s.args.b s.ranges.b.sfits ∙ rw (tested s.args.a s.args.b true s.ranges.a.sfits s.ranges.b.sfits c.if-a-b.true)
 
-returns-2 : tie.Need-returns-2
+returns-2 : tie.Need-returns
 unfolding larger
 returns-2 c =
-    let s = c.before in
-    read_back s.args.a s.ranges.a.sfits ∙ rw (tested s.args.a s.args.b false s.ranges.a.sfits s.ranges.b.sfits c.if1.false)
+    let s = c in
+    read_back s.args.a s.ranges.a.sfits ∙ rw (tested s.args.a s.args.b false s.ranges.a.sfits s.ranges.b.sfits c.if-a-b.false)
 
-pub larger-spec : {M : Type 1} → statement M
-larger-spec = tie.close (tie.spec returns returns-2)
+pub larger_spec : {M : Type 1} → statement M
+larger_spec = tie.close (tie.spec returns returns-2)

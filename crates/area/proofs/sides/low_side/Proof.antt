@@ -11,54 +11,54 @@ use Rattle.area.proofs.SideLaws.{read_back, low-none, low-more}
 use Rattle.area.proofs.sides.low_side.Statement.{statement}
 use Rattle.area.proofs.sides.low_side.Tie as tie
 
-abbrev invariant-loop : tie.invariant-loop
+abbrev invariant-loop : tie.invariant-loop-k
 invariant-loop offsets n axis low₀ k₀ low k = (k ≤ n) × (to_z w32 low ≡ low_side k (axis_of offsets axis))
 
-abbrev decreases-loop : tie.decreases-loop
+abbrev decreases-loop : tie.decreases-loop-k
 decreases-loop offsets n axis low₀ k₀ low k = n - k
 
-loop-holds : tie.Need-loop-init invariant-loop decreases-loop
+loop-holds : tie.Need-loop-k-init invariant-loop decreases-loop
 loop-holds c = (omega arith, low-none _)
 
-mul-larger : tie.Need-overflow-mul-larger invariant-loop decreases-loop
+mul-larger : tie.Need-overflow_mul-k invariant-loop decreases-loop
 mul-larger c = search rules
 
-add-larger : tie.Need-overflow-add-larger invariant-loop decreases-loop
+add-larger : tie.Need-overflow_add-k invariant-loop decreases-loop
 add-larger c = search rules
 
-mul-larger-2 : tie.Need-overflow-mul-larger-2 invariant-loop decreases-loop
+mul-larger-2 : tie.Need-offset_bounds-offsets-k invariant-loop decreases-loop
 mul-larger-2 c = search rules
 
-shared-slice-copy-out-larger : tie.Need-shared-slice-copy-out-larger invariant-loop decreases-loop
+shared-slice-copy-out-larger : tie.Need-bounds-offsets-k invariant-loop decreases-loop
 shared-slice-copy-out-larger c = search rules
 
-larger-requires : tie.Need-larger-requires invariant-loop decreases-loop
+larger-requires : tie.Need-larger-low-requires invariant-loop decreases-loop
 larger-requires c κs = search rules
 
-add-k : tie.Need-overflow-add-k invariant-loop decreases-loop
+add-k : tie.Need-overflow_add-k-in-loop-k invariant-loop decreases-loop
 add-k c = search rules
 
-loop-less : tie.Need-loop-smaller invariant-loop decreases-loop
+loop-less : tie.Need-loop-k-smaller invariant-loop decreases-loop
 loop-less c = search rules
 
-loop-again : tie.Need-loop-preserved invariant-loop decreases-loop
+loop-again : tie.Need-loop-k-preserved invariant-loop decreases-loop
 loop-again c =
-    let lp = c.before.before.before.loop in (
+    let lp = c.loop-k in (
       omega arith,
-      read_back _ c.larger.type-inv
-          ∙ c.larger.ensures
-          ∙ ap₂ larger lp.invariant.1 (read_back _ c.before.larger-arg.given)
+      read_back _ c.larger-low.type_inv
+          ∙ c.larger-low.ensures
+          ∙ ap₂ larger lp.invariant.1 (read_back _ c.larger-arg-1.given)
           ∙ low-more lp.k _,
     )
 
 returns : tie.Need-returns invariant-loop decreases-loop
 returns c =
-    let lp = c.before.loop in
-    let e : lp.k ≡ c.before.before.args.n = omega arith in
+    let lp = c.loop-k in
+    let e : lp.k ≡ c.args.n = omega arith in
     rw e at lp.invariant.1
 
-pub low-side-spec : {M : Type 1} → statement M
-low-side-spec =
+pub low_side_spec : {M : Type 1} → statement M
+low_side_spec =
     tie.close
     (tie.spec
     invariant-loop

@@ -5,7 +5,7 @@ use Rattle.rules.specs.Bitmaps.{row_words}
 use Rattle.rules.specs.Buffers.{RowAt}
 use Rattle.rules.proofs.FrameLaws.{row-none}
 use Rattle.pack.specs.Outside.{columns_word}
-use Rattle.pack.proofs.OutsideLaws.{row_words, columns-word}
+use Rattle.pack.proofs.OutsideLaws.{row-words, columns-word}
 use Rattle.flags.proofs.FlagLaws.{weights-held}
 use native.Mathlib.Omega.{arith}
 use borrow.Author.Rules.{rules}
@@ -22,7 +22,7 @@ decreases-loop grey from w lo hi out₀ to weights full rest k₀ out k = full -
 loop-holds : tie.Need-loop-k-init invariant-loop decreases-loop
 loop-holds c =
     let a = c.args in
-    (omega arith, row_words a.w, row-none a.to (columns_word a.lo a.hi a.grey.now a.from a.w) a.out.now)
+    (omega arith, row-words a.w, row-none a.to (columns_word a.lo a.hi a.grey.now a.from a.w) a.out.now)
 
 mul-pack-word : tie.Need-overflow_mul-k invariant-loop decreases-loop
 mul-pack-word c = search rules

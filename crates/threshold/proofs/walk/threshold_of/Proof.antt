@@ -12,18 +12,18 @@ use Rattle.threshold.proofs.walk.threshold_of.Tie as tie
 goal-le : (c : tie.Start) → c.args.percentile * c.args.pixels ≤ 99 * c.args.pixels
 goal-le c = mul-le-mul_right c.args.pixels c.requires.2
 
-mul-goal : tie.Need-overflow-mul-goal
+mul-goal : tie.Need-overflow_mul-goal
 mul-goal c = omega (arith, goal-le c)
 
-first-reaching-requires : tie.Need-first-reaching-requires
+first-reaching-requires : tie.Need-first_reaching-requires
 first-reaching-requires c κs = omega (arith, goal-le c)
 
 returns : tie.Need-returns
 returns c l k =
-    let a = c.before.args in
-    c.first-reaching.ensures
-    ∙ ap (λ (n : ℕ). first_reaching (a.percentile * n) a.counts.now) (sym c.before.requires.0)
+    let a = c.args in
+    c.first_reaching.ensures
+    ∙ ap (λ (n : ℕ). first_reaching (a.percentile * n) a.counts.now) (sym c.requires.0)
     ∙ walk_is a.percentile l a.counts.now k
 
-pub threshold-of-spec : {M : Type 1} → statement M
-threshold-of-spec = tie.close (tie.spec mul-goal first-reaching-requires returns)
+pub threshold_of_spec : {M : Type 1} → statement M
+threshold_of_spec = tie.close (tie.spec mul-goal first-reaching-requires returns)
