@@ -48,7 +48,7 @@ module _ (z : ℤ) (fits : SFits w32 z) where
 
 -- what a function says of a number that it was passed
 pub passed : {A : Type 0} (f : ℤ → A) (z : ℤ) (r : A) → mag z < 2 ^ 31 → r ≡ f (to_z w32 (of_z w32 z)) → r ≡ f z
-passed f z r l e = e ∙ ap f (to_z-of_z (record { sfits = l }))
+passed f z r l e = e ∙ ap f (to_z-of_z {w = w32} (record { sfits = l }))
 
 -- a number in size above a bound: below its opposite, or above it
 far-below : (z : ℤ) (b : ℕ) → lt_z z (neg_ℤ (pos b)) ≡ true → ltb b (nat_abs z) ≡ true

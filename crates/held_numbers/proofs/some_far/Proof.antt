@@ -82,7 +82,7 @@ loop-again : tie.Need-loop-k-preserved invariant-loop decreases-loop
 loop-again c =
     let l = lp c.before in
     let a = l.args in
-    (omega arith, far_none a.bound (held_pair a.held.now) l.loop-k.k _ _ (told-dx c.before) (told-dy c.before) l.loop-k.inv.1 c.if-far.false)
+    (omega arith, far_none a.bound (held_pair a.held.now) l.loop-k.k _ _ (told-dx c.before) (told-dy c.before) l.loop-k.invariant.1 c.if-far.false)
 
 returns-2 : tie.Need-returns invariant-loop decreases-loop
 returns-2 c =

@@ -1,4 +1,5 @@
 use mir.Facts.{to_z-of_z}
+use mir.Syntax.{w32}
 use Prim.Native.Nat.{◌-◌, ◌≤◌}
 use Rattle.live.specs.Held.{pair_place}
 use Rattle.held_writes.proofs.WriteLaws.{MovedUpTo, moved_none, moved_more, moved-pairs}
@@ -48,7 +49,7 @@ loop-again c =
     let a = c.before.before.before.args in
     let l = c.before.before.loop in
     let same = l.invariant.2.len in
-    (omega arith, omega arith, moved_more l.i a.held.now l.held _ (omega arith) (to_z-of_z (record { sfits = c.number.given })) l.invariant.2)
+    (omega arith, omega arith, moved_more l.i a.held.now l.held _ (omega arith) (to_z-of_z {w = w32} (record { sfits = c.number.given })) l.invariant.2)
 
 same_length : tie.Need-same-length invariant-loop decreases-loop
 same_length c = c.before.loop.invariant.2.len

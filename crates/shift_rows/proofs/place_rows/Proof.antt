@@ -86,7 +86,7 @@ returns c =
     let first = c.clear_words in
     let found = c in
     let a = found.args in
-    all_placed a.src.now a.h a.m a.down found.smaller-above.result found.smaller-below.result (split found.before.before.before.before.before.before.before.before.before.before.before.before) a.dst.now first.last.0 moved.last.1.1.0 last.last.0
+    all_placed a.src.now a.h a.m a.down found.smaller-above.result found.smaller-below.result (split found.before.before.before.before.before.before.before.before.before.before.before.before) a.dst.now first.new.dst moved.new.dst last.new.dst
     first.ensures moved.ensures last.ensures
 
 pub place_rows_spec : {M : Type 1} → statement M
