@@ -12,85 +12,85 @@ use borrow.Author.Rules.{rules}
 use Rattle.level_planes.proofs.bitmaps_within.Statement.{statement}
 use Rattle.level_planes.proofs.bitmaps_within.Tie as tie
 
-mul-end : tie.Need-overflow-mul-end
+mul-end : tie.Need-overflow_mul-end
 mul-end c = search rules
 
-add-end : tie.Need-overflow-add-end
+add-end : tie.Need-overflow_add-end
 add-end c = search rules
 
-sub-histogram : tie.Need-overflow-sub-histogram
+sub-histogram : tie.Need-slice_bounds-histogram-count
 sub-histogram c = search rules
 
-part-histogram-start : tie.Need-slice-bounds-histogram-start
+part-histogram-start : tie.Need-slice_bounds-histogram-start
 part-histogram-start c = search rules
 
-part-histogram-end : tie.Need-slice-bounds-histogram-end
+part-histogram-end : tie.Need-slice_bounds-histogram-end
 part-histogram-end c = search rules
 
-histogram-requires : tie.Need-histogram-requires
+histogram-requires : tie.Need-histogram-counts-requires
 histogram-requires c κs =
-    let s = c.before.before.before in
+    let s = c in
     let a = s.args in
     let z = (sized a.setup.w a.setup.h s.requires.0).area in
     let len = part_length a.setup.w a.setup.h a.from a.grey.now s.requires.1.1.0 in
     omega arith
 
-mul-pixels : tie.Need-overflow-mul-pixels
+mul-pixels : tie.Need-overflow_mul-pixels
 mul-pixels c = search rules
 
-threshold-of-requires : tie.Need-threshold-of-requires
+threshold-of-requires : tie.Need-threshold_of-threshold-requires
 threshold-of-requires c κs =
-    let s = c.before.before.before.before.before in
+    let s = c in
     let a = s.args in (
-      c.before.histogram.ensures.all ∙ part_length a.setup.w a.setup.h a.from a.grey.now s.requires.1.1.0,
+      c.histogram-counts.ensures.all ∙ part_length a.setup.w a.setup.h a.from a.grey.now s.requires.1.1.0,
       (sized a.setup.w a.setup.h s.requires.0).area,
       let most = s.requires.1.0.most in omega arith,
     )
 
-excluded-requires : tie.Need-excluded-requires
+excluded-requires : tie.Need-excluded-out-requires
 excluded-requires c κs =
-    let s = c.before.before.before.before.before.before.before in
+    let s = c in
     let a = s.args in (
       (
-        c.before.before.before.histogram.ensures.all ∙ part_length a.setup.w a.setup.h a.from a.grey.now s.requires.1.1.0,
+        c.histogram-counts.ensures.all ∙ part_length a.setup.w a.setup.h a.from a.grey.now s.requires.1.1.0,
         (sized a.setup.w a.setup.h s.requires.0).area,
       ),
       s.requires.1.0,
     )
 
 -- what the level leaves out, by the frame's own thresholds
-excludes : (c : tie.After-excluded)
-    → let a = c.before.before.before.before.before.before.before.before.args in
+excludes : (c : tie.After-excluded-out)
+    → let a = c.args in
     Excludes a.setup.exclusion (λ p. threshold a.setup.w a.setup.h p (frame_of a.setup.w (drop a.from a.grey.now))) a.setup.percentile
-    c.excluded.result.lo c.excluded.result.hi
+    c.excluded-out.result.lo c.excluded-out.result.hi
 excludes c =
-    let s = c.before.before.before.before.before.before.before.before in
+    let s = c in
     let a = s.args in
-    let counts = c.before.before.before.before.histogram.ensures in
+    let counts = c.histogram-counts.ensures in
     part-excludes a.setup.w a.setup.h a.from a.grey.now s.requires.1.1.0 a.setup.exclusion a.setup.percentile _ _
-    (c.excluded.ensures _ counts (c.before.before.threshold-of.ensures _ counts))
+    (c.excluded-out.ensures _ counts (c.threshold_of-threshold.ensures _ counts))
 
-pack-within-requires : tie.Need-pack-within-requires
+pack-within-requires : tie.Need-pack_within-requires
 pack-within-requires c κs =
-    let p = c.before.before.before.before.before.before.before.before.before.requires in
+    let p = c.requires in
     (p.0, (p.1.1.0, (p.1.1.1, (excludes c.before).ordered)))
 
-same_length : tie.Need-same-length
+same_length : tie.Need-shape_of-words
 same_length c = search rules
 
 returns : tie.Need-returns
 returns c =
-    let s = c.before.before.before.before.before.before.before.before.before.before.before.before in
+    let s = c in
     let a = s.args in
-    let out = c.before.before.before.before in
-    let t = out.before.before.threshold-of in
-    packed-at a.setup a.from a.grey.now a.to a.words.now _ t.result out.excluded.result.lo out.excluded.result.hi
-    (λ i. (c.before.before.before.before.before.before.before.before.before.before.before.shared-slice-known.given i).fits)
-    (t.ensures _ out.before.before.before.before.histogram.ensures ∙ part-threshold a.setup.w a.setup.h a.from a.grey.now s.requires.1.1.0 a.setup.percentile)
-    (excludes out) c.before.before.pack-within.ensures
+    let out = c in
+    let t = out.threshold_of-threshold in
+    packed-at a.setup a.from a.grey.now a.to a.words.now _ t.result out.excluded-out.result.lo out.excluded-out.result.hi
+    (λ i. (c.shared_slice_known-1.given i).fits)
+    (t.ensures _ out.histogram-counts.ensures ∙ part-threshold a.setup.w a.setup.h a.from a.grey.now s.requires.1.1.0 a.setup.percentile)
+    (excludes out.before.before.before.before) c.pack_within.ensures
 
-pub bitmaps-within-spec : {M : Type 1} → statement M
-bitmaps-within-spec =
+pub bitmaps_within_spec : {M : Type 1} → statement M
+bitmaps_within_spec =
     tie.close
     (tie.spec
     mul-end

@@ -7,35 +7,35 @@ use Rattle.live_refusals.proofs.LiveRefusalLaws.{held_first, held-pass, held-siz
 use Rattle.live_refusals.proofs.add_refusal.Statement.{statement}
 use Rattle.live_refusals.proofs.add_refusal.Tie as tie
 
-held-refusal-requires : tie.Need-held-refusal-requires
+held-refusal-requires : tie.Need-held_refusal-first-requires
 held-refusal-requires c κs = search rules
 
-returns : tie.Need-returns
+returns : tie.Need-returns-then-first-ne0
 unfolding add_number
 returns c =
-    let a = c.before.before.args in
-    held_first a.held.now c.before.held-refusal.result c.before.held-refusal.ensures c.if1.true _
+    let a = c.args in
+    held_first a.held.now c.held_refusal-first.result c.held_refusal-first.ensures c.if-first-ne0.true _
 
-bracket-of-requires : tie.Need-bracket-of-requires
+bracket-of-requires : tie.Need-bracket_of-requires
 bracket-of-requires c κs =
-    let k = held-size c.before.before.args.held.now c.before.held-refusal.result c.before.held-refusal.ensures c.if1.false in
+    let k = held-size c.args.held.now c.held_refusal-first.result c.held_refusal-first.ensures c.if-first-ne0.false in
     omega arith
 
-add-rest-requires : tie.Need-add-rest-requires
+add-rest-requires : tie.Need-add_rest-requires
 add-rest-requires c κs =
-    let e = c.before in
-    held-limits e.before.before.args.held.now e.before.held-refusal.result e.before.held-refusal.ensures e.if1.false
-    c.bracket-of.result c.bracket-of.ensures
+    let e = c in
+    held-limits e.args.held.now e.held_refusal-first.result e.held_refusal-first.ensures e.if-first-ne0.false
+    c.bracket_of.result c.bracket_of.ensures
 
-returns-2 : tie.Need-returns-2
+returns-2 : tie.Need-returns
 unfolding add_number
 returns-2 c =
-    let e = c.before.before in
-    let a = e.before.before.args in
-    rw c.before.bracket-of.ensures at c.add-rest.ensures
-    ∙ sym (held-pass a.held.now e.before.held-refusal.result e.before.held-refusal.ensures e.if1.false _)
+    let e = c in
+    let a = e.args in
+    rw c.bracket_of.ensures at c.add_rest.ensures
+    ∙ sym (held-pass a.held.now e.held_refusal-first.result e.held_refusal-first.ensures e.if-first-ne0.false _)
 
-pub add-refusal-spec : {M : Type 1} → statement M
-add-refusal-spec =
+pub add_refusal_spec : {M : Type 1} → statement M
+add_refusal_spec =
     tie.close
     (tie.spec held-refusal-requires returns bracket-of-requires add-rest-requires returns-2)

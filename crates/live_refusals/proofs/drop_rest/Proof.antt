@@ -5,17 +5,17 @@ use Rattle.rules.proofs.RefusalLaws.{or_else-none}
 use Rattle.live_refusals.proofs.drop_rest.Statement.{statement}
 use Rattle.live_refusals.proofs.drop_rest.Tie as tie
 
-mul-area : tie.Need-overflow-mul-area
+mul-area : tie.Need-overflow_mul-area
 mul-area c = search rules
 
-returns : tie.Need-returns
-returns c = simp (eq-eqb _ _ c.if1.true)
+returns : tie.Need-returns-then-b-eq0
+returns c = simp (eq-eqb _ _ c.if-b-eq0.true)
 
 lowest-requires : tie.Need-lowest-requires
 lowest-requires c κs = search rules
 
-returns-2 : tie.Need-returns-2
-returns-2 c = simp (ne_eqb _ _ c.before.if1.false) (simp or_else-none at c.lowest.ensures)
+returns-2 : tie.Need-returns
+returns-2 c = simp (ne_eqb _ _ c.if-b-eq0.false) (simp or_else-none at c.lowest.ensures)
 
-pub drop-rest-spec : {M : Type 1} → statement M
-drop-rest-spec = tie.close (tie.spec mul-area returns lowest-requires returns-2)
+pub drop_rest_spec : {M : Type 1} → statement M
+drop_rest_spec = tie.close (tie.spec mul-area returns lowest-requires returns-2)

@@ -9,43 +9,43 @@ use Rattle.live.specs.Steps.{start_number}
 use Rattle.live_refusals.proofs.start_refusal.Statement.{statement}
 use Rattle.live_refusals.proofs.start_refusal.Tie as tie
 
-shape-refusal-requires : tie.Need-shape-refusal-requires
+shape-refusal-requires : tie.Need-shape_refusal-shape-requires
 shape-refusal-requires c κs = search rules
 
-returns : tie.Need-returns
+returns : tie.Need-returns-then-shape-ne0
 unfolding start_number
 returns c =
-    let a = c.before.before.args in
-    shape-first a.w a.h a.s _ _ c.before.shape-refusal.ensures c.if1.true
+    let a = c.args in
+    shape-first a.w a.h a.s _ _ c.shape_refusal-shape.ensures c.if-shape-ne0.true
 
-mul-area : tie.Need-overflow-mul-area
+mul-area : tie.Need-overflow_mul-area
 mul-area c =
-    let a = c.before.before.args in
-    let k = shape-ok a.w a.h a.s (sym c.before.shape-refusal.ensures ∙ c.if1.false) in
+    let a = c.args in
+    let k = shape-ok a.w a.h a.s (sym c.shape_refusal-shape.ensures ∙ c.if-shape-ne0.false) in
     omega arith
 
-tolerance-refusal-requires : tie.Need-tolerance-refusal-requires
+tolerance-refusal-requires : tie.Need-tolerance_refusal-requires
 tolerance-refusal-requires c κs = search rules
 
-bad-percentile-requires : tie.Need-bad-percentile-requires
+bad-percentile-requires : tie.Need-bad_percentile-requires
 bad-percentile-requires c κs = search rules
 
 lowest-requires : tie.Need-lowest-requires
 lowest-requires c κs = search rules
 
-returns-2 : tie.Need-returns-2
+returns-2 : tie.Need-returns
 unfolding start_number
 returns-2 c =
-    let e = c.before.before.before in
-    let a = e.before.before.args in
+    let e = c in
+    let a = e.args in
     simp (
-      shape-pass a.w a.h a.s _ e.before.shape-refusal.ensures e.if1.false,
-      ← c.before.before.tolerance-refusal.ensures,
-      ← c.before.bad-percentile.ensures,
+      shape-pass a.w a.h a.s _ e.shape_refusal-shape.ensures e.if-shape-ne0.false,
+      ← c.tolerance_refusal.ensures,
+      ← c.bad_percentile.ensures,
     ) (simp or_else-none at c.lowest.ensures)
 
-pub start-refusal-spec : {M : Type 1} → statement M
-start-refusal-spec =
+pub start_refusal_spec : {M : Type 1} → statement M
+start_refusal_spec =
     tie.close
     (tie.spec
     shape-refusal-requires

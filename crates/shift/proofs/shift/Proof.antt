@@ -10,35 +10,35 @@ use Rattle.rules.proofs.RefusalLaws.{shift-ok, written-refused, buffer-refused}
 use Rattle.shift.proofs.shift.Statement.{statement}
 use Rattle.shift.proofs.shift.Tie as tie
 
-shift-refusal-requires : tie.Need-shift-refusal-requires
+shift-refusal-requires : tie.Need-shift_refusal-n-requires
 shift-refusal-requires c κs = search rules
 
 -- the answers: a call is refused where its number is not 0, and writes where it is
-returns : tie.Need-returns
+returns : tie.Need-returns-then-n-ne0
 returns c =
-    let n = c.before.shift-refusal.result in
-    let refused : n ≡ 0 → ⊥ = λ z. let l = c.if1.true in omega arith in
-    rw (← c.before.shift-refusal.ensures) (record { answered = written-refused n refused; filled = buffer-refused n _ _ refused })
+    let n = c.shift_refusal-n.result in
+    let refused : n ≡ 0 → ⊥ = λ z. let l = c.if-n-ne0.true in omega arith in
+    rw (← c.shift_refusal-n.ensures) (record { answered = written-refused n refused; filled = buffer-refused n _ _ refused })
 
-returns-2 : tie.Need-returns-2
+returns-2 : tie.Need-returns
 returns-2 c =
-    let s = c.before.before.before.before.before.before.before.before in
+    let s = c in
     let a = s.args in
-    let n = c.before.before.before.before.before.shift-refusal in
-    let accepted : n.result ≡ 0 = c.before.before.before.before.if1.false in
+    let n = c.shift_refusal-n in
+    let accepted : n.result ≡ 0 = c.if-n-ne0.false in
     rw (sym n.ensures ∙ accepted) (record {
       answered = refl;
-      filled = c.before.before.shift-bitmap.ensures
+      filled = c.shift_bitmap.ensures
           ∙ (λ i. written_over (packed a.w a.h (shifted a.w a.h (to_z-of_z s.ranges.dx i) (to_z-of_z s.ranges.dy i) (bit_at a.w a.h a.bitmap.now))) a.out.now);
     })
 
 -- what the core asks
-shift-bitmap-requires : tie.Need-shift-bitmap-requires
-shift-bitmap-requires c κs = shift-ok _ _ _ _ (sym c.before.before.shift-refusal.ensures ∙ c.before.if1.false)
+shift-bitmap-requires : tie.Need-shift_bitmap-requires
+shift-bitmap-requires c κs = shift-ok _ _ _ _ (sym c.shift_refusal-n.ensures ∙ c.if-n-ne0.false)
 
-same_length : tie.Need-same-length
+same_length : tie.Need-shape_of-out
 same_length c = search rules
 
-pub shift-spec : {M : Type 1} → statement M
-shift-spec =
+pub shift_spec : {M : Type 1} → statement M
+shift_spec =
     tie.close (tie.spec shift-refusal-requires returns shift-bitmap-requires same_length returns-2)

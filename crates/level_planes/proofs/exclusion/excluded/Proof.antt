@@ -6,37 +6,37 @@ use borrow.Author.Rules.{rules}
 use Rattle.level_planes.proofs.exclusion.excluded.Statement.{statement}
 use Rattle.level_planes.proofs.exclusion.excluded.Tie as tie
 
-enum-known-exclusion : tie.Need-enum-known-exclusion
+enum-known-exclusion : tie.Need-enum_known-exclusion
 enum-known-exclusion c = search rules
 
 around-requires : tie.Need-around-requires
 around-requires c κs = search rules
 
-enum-known-exclusion-2 : tie.Need-enum-known-exclusion-2
+enum-known-exclusion-2 : tie.Need-enum_known-exclusion-in-Band-1
 enum-known-exclusion-2 c = search rules
 
 between-requires : tie.Need-between-requires
 between-requires c κs =
-    let s = c.before.before.before in
-    let ok = rw c.before.exclusion2.given.1 at s.requires.1 in
+    let s = c in
+    let ok = rw c.exclusion-in-Band-1.given.1 at s.requires.1 in
     (s.requires.0, (ok.least, ok.most))
 
-returns : tie.Need-returns
+returns : tie.Need-returns-in-Tolerance
 returns c l counted at =
-    let s = c.before.before.before.before in
+    let s = c in
     let byte = s.ranges.threshold in
     let ends = c.around.ensures in
-    rw c.before.before.exclusion.given.1
+    rw c.exclusion-1.given.1
     (tolerance-excludes _ s.args.threshold c.around.result.lo c.around.result.hi (λ p. threshold_in p l) s.args.percentile (omega arith) at ends.0 ends.1)
 
-returns-2 : tie.Need-returns-2
+returns-2 : tie.Need-returns-in-Band
 returns-2 c l counted at =
-    let s = c.before.before.before.before in
+    let s = c in
     let ends = c.between.ensures in
-    rw c.before.before.exclusion2.given.1 (band-excludes _ s.args.percentile c.between.result.lo c.between.result.hi l (ends.0 l counted) (ends.1 l counted))
+    rw c.exclusion-in-Band-1.given.1 (band-excludes _ s.args.percentile c.between.result.lo c.between.result.hi l (ends.0 l counted) (ends.1 l counted))
 
-pub excluded-spec : {M : Type 1} → statement M
-excluded-spec =
+pub excluded_spec : {M : Type 1} → statement M
+excluded_spec =
     tie.close
     (tie.spec
     enum-known-exclusion

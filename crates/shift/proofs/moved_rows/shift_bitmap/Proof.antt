@@ -19,41 +19,41 @@ sized : (w h n bitmap out : ℕ) → n ≡ row_words w → ShiftOk w h bitmap ou
 sized w h n bitmap out e k = rw e (record { height = k.size.height; source = omega arith; room = k.room })
 
 -- the horizontal move, counted from the bias
-right : (c : tie.After-biased) → c.biased.result ≡ bias_of c.before.before.before.args.dx
-right c = c.biased.ensures ∙ ap bias_of (to_z-of_z c.before.before.before.ranges.dx)
+right : (c : tie.After-biased) → c.biased.result ≡ bias_of c.args.dx
+right c = c.biased.ensures ∙ ap bias_of (to_z-of_z c.ranges.dx)
 
 biased-requires : tie.Need-biased-requires
 biased-requires c κs = search rules
 
-move-by-requires : tie.Need-move-by-requires
-move-by-requires c κs = let s = c.before.before.before in (s.requires.size.width, rw (right c) (bias-lt s.args.dx s.ranges.dx))
+move-by-requires : tie.Need-move_by-m-requires
+move-by-requires c κs = let s = c in (s.requires.size.width, rw (right c) (bias-lt s.args.dx s.ranges.dx))
 
 biased-requires-2 : tie.Need-biased-requires-2
 biased-requires-2 c κs = search rules
 
-place-rows-requires : tie.Need-place-rows-requires
+place-rows-requires : tie.Need-place_rows-requires
 place-rows-requires c κs =
-    let s = c.before.before.before.before.before.before in
+    let s = c in
     let a = s.args in
-    let m = c.before.before.move-by in
+    let m = c.move_by-m in
     (m.ensures.1.1, sized a.w a.h m.result.n (length a.bitmap.now) (length a.out.now) (m.ensures.1.1.row ∙ ap row_words m.ensures.0) s.requires)
 
-same_length : tie.Need-same-length
+same_length : tie.Need-shape_of-out
 same_length c = search rules
 
 returns : tie.Need-returns
 returns c =
-    let s = c.before.before.before.before.before.before.before.before.before in
+    let s = c in
     let a = s.args in
-    let rows = c.before.before.place-rows in
-    let down = c.before.before.before.biased2 in
-    let m = c.before.before.before.before.before.move-by in
+    let rows = c.place_rows in
+    let down = c.biased-2 in
+    let m = c.move_by-m in
     shifted-written a.bitmap.now a.w a.h a.dx a.dy s.ranges.dx s.ranges.dy m.result m.ensures.1.1 m.ensures.0
-    (m.ensures.1.0 ∙ right c.before.before.before.before.before.before) down.result a.out.now rows.new.1.0
+    (m.ensures.1.0 ∙ right c.before.before.before.before.before.before) down.result a.out.now rows.new.dst
     (down.ensures ∙ ap bias_of (to_z-of_z s.ranges.dy)) s.requires.room rows.ensures
 
-pub shift-bitmap-spec : {M : Type 1} → statement M
-shift-bitmap-spec =
+pub shift_bitmap_spec : {M : Type 1} → statement M
+shift_bitmap_spec =
     tie.close
     (tie.spec
     biased-requires
