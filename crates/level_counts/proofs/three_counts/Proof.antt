@@ -13,16 +13,16 @@ use borrow.Author.Rules.{rules}
 use Rattle.level_counts.proofs.three_counts.Statement.{statement}
 use Rattle.level_counts.proofs.three_counts.Tie as tie
 
-abbrev invariant-loop : tie.invariant-loop
+abbrev invariant-loop : tie.invariant-loop-j
 invariant-loop words w h centre i counts₀ compared₀ at table j₀ counts compared j =
     (j ≤ 3) × (RowAt at (column_of (words_count w h words) centre i) counts₀ j counts × RowAt at (column_of (words_compared w h words) centre i) compared₀ j compared)
 
-abbrev decreases-loop : tie.decreases-loop
+abbrev decreases-loop : tie.decreases-loop-j
 decreases-loop words w h centre i counts₀ compared₀ at table j₀ counts compared j = 3 - j
 
-loop-holds : tie.Need-loop-init invariant-loop decreases-loop
+loop-holds : tie.Need-loop-j-init invariant-loop decreases-loop
 loop-holds c =
-    let a = c.before.before.before.args in (
+    let a = c.args in (
       search rules,
       (
         row-none a.at (column_of (words_count a.w a.h a.words.now) a.centre a.i) a.counts.now,
@@ -30,35 +30,35 @@ loop-holds c =
       ),
     )
 
-mul-candidate : tie.Need-overflow-mul-candidate invariant-loop decreases-loop
+mul-candidate : tie.Need-overflow_mul-i invariant-loop decreases-loop
 mul-candidate c = search rules
 
-add-candidate : tie.Need-overflow-add-candidate invariant-loop decreases-loop
+add-candidate : tie.Need-overflow_add-i invariant-loop decreases-loop
 add-candidate c = search rules
 
-candidate-requires : tie.Need-candidate-requires invariant-loop decreases-loop
+candidate-requires : tie.Need-candidate-m-requires invariant-loop decreases-loop
 candidate-requires c κs = search rules
 
-tally-slid-requires : tie.Need-tally-slid-requires invariant-loop decreases-loop
+tally-slid-requires : tie.Need-tally_slid-tally-requires invariant-loop decreases-loop
 tally-slid-requires c κs =
-    let s = c.before.before.before.before.before.before in
+    let s = c in
     let p = s.requires in
     let a = s.args in
-    let j = c.before.before.loop.j in
-    let same : c.candidate.result.dx ≡ (candidate_at a.centre (3 * a.i)).dx =
-    ap (λ (m : Offset). m.dx) c.candidate.ensures ∙ column-dx a.centre a.i j p.1.1.1.0 (omega arith) in
+    let j = c.loop-j.j in
+    let same : c.candidate-m.result.dx ≡ (candidate_at a.centre (3 * a.i)).dx =
+    ap (λ (m : Offset). m.dx) c.candidate-m.ensures ∙ column-dx a.centre a.i j p.1.1.1.0 (omega arith) in
     let near = candidate-near a.centre (3 * a.i + j) (omega arith) p.1.1.0 in
-    (p.0, (p.1.0, (rw c.candidate.ensures near, (rw same p.1.1.1.1.0, p.1.1.1.1.1.1))))
+    (p.0, (p.1.0, (rw c.candidate-m.ensures near, (rw same p.1.1.1.1.0, p.1.1.1.1.1.1))))
 
-loop-again : tie.Need-loop-preserved invariant-loop decreases-loop
+loop-again : tie.Need-loop-j-preserved invariant-loop decreases-loop
 loop-again c =
-    let s = c.before.before.before.before.before.before.before in
+    let s = c in
     let a = s.args in
-    let l = c.before.before.before.loop in
-    let m = c.before.candidate in
-    let t = c.tally-slid in
+    let l = c.loop-j in
+    let m = c.candidate-m in
+    let t = c.tally_slid-tally in
     let three = s.requires.1.1.1.1.1.0 in
-    let less = c.before.before.loop-test.true in (
+    let less = c.loop-j-test.true in (
       search rules,
       (
         row_more a.at (column_of (words_count a.w a.h a.words.now) a.centre a.i) a.counts.now l.j l.counts t.result.count
@@ -68,41 +68,41 @@ loop-again c =
       ),
     )
 
-add-counts : tie.Need-overflow-add-counts invariant-loop decreases-loop
+add-counts : tie.Need-overflow_add-counts invariant-loop decreases-loop
 add-counts c = search rules
 
-mul-counts : tie.Need-overflow-mul-counts invariant-loop decreases-loop
+mul-counts : tie.Need-offset_bounds-counts-at invariant-loop decreases-loop
 mul-counts c = search rules
 
-slice-write-counts : tie.Need-slice-write-counts invariant-loop decreases-loop
+slice-write-counts : tie.Need-bounds-counts-at invariant-loop decreases-loop
 slice-write-counts c = search rules
 
-add-compared : tie.Need-overflow-add-compared invariant-loop decreases-loop
+add-compared : tie.Need-overflow_add-compared invariant-loop decreases-loop
 add-compared c = search rules
 
-mul-compared : tie.Need-overflow-mul-compared invariant-loop decreases-loop
+mul-compared : tie.Need-offset_bounds-compared-at invariant-loop decreases-loop
 mul-compared c = search rules
 
-slice-write-compared : tie.Need-slice-write-compared invariant-loop decreases-loop
+slice-write-compared : tie.Need-bounds-compared-at invariant-loop decreases-loop
 slice-write-compared c = search rules
 
-add-j : tie.Need-overflow-add-j invariant-loop decreases-loop
+add-j : tie.Need-overflow_add-j invariant-loop decreases-loop
 add-j c = search rules
 
-loop-less : tie.Need-loop-smaller invariant-loop decreases-loop
+loop-less : tie.Need-loop-j-smaller invariant-loop decreases-loop
 loop-less c = search rules
 
-same_length : tie.Need-same-length invariant-loop decreases-loop
+same_length : tie.Need-shape_of-counts invariant-loop decreases-loop
 same_length c = search rules
 
-same-length-2 : tie.Need-same-length-2 invariant-loop decreases-loop
+same-length-2 : tie.Need-shape_of-compared invariant-loop decreases-loop
 same-length-2 c = search rules
 
 returns : tie.Need-returns invariant-loop decreases-loop
-returns c = let l = c.before.loop in let e : l.j ≡ 3 = omega arith in rw e at l.invariant.1
+returns c = let l = c.loop-j in let e : l.j ≡ 3 = omega arith in rw e at l.invariant.1
 
-pub three-counts-spec : {M : Type 1} → statement M
-three-counts-spec =
+pub three_counts_spec : {M : Type 1} → statement M
+three_counts_spec =
     tie.close
     (tie.spec
     invariant-loop

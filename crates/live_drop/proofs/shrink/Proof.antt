@@ -6,51 +6,51 @@ use Rattle.live_drop.proofs.ShrinkLaws.{frames-read, limits-read, shrunk-is}
 use Rattle.live_drop.proofs.shrink.Statement.{statement}
 use Rattle.live_drop.proofs.shrink.Tie as tie
 
-bracket-of-requires : tie.Need-bracket-of-requires
+bracket-of-requires : tie.Need-bracket_of-w-requires
 bracket-of-requires c κs = search rules
 
-sub-pairs-in : tie.Need-overflow-sub-pairs-in
+sub-pairs-in : tie.Need-overflow_sub-left
 sub-pairs-in c =
-    let a = c.before.before in
-    let some = frames-read a.args.held.now c.bracket-of.result c.bracket-of.ensures a.requires.1.1 in
+    let a = c in
+    let some = frames-read a.args.held.now c.bracket_of-w.result c.bracket_of-w.ensures a.requires.1.1 in
     omega arith
 
-sub-pairs-in-2 : tie.Need-overflow-sub-pairs-in-2
+sub-pairs-in-2 : tie.Need-overflow_sub-frames
 sub-pairs-in-2 c =
-    let a = c.before.before in
-    let some = frames-read a.args.held.now c.bracket-of.result c.bracket-of.ensures a.requires.1.1 in
+    let a = c in
+    let some = frames-read a.args.held.now c.bracket_of-w.result c.bracket_of-w.ensures a.requires.1.1 in
     omega arith
 
-pairs-in-requires : tie.Need-pairs-in-requires
+pairs-in-requires : tie.Need-pairs_in-pairs-requires
 pairs-in-requires c κs = search rules
 
-drop-pair-requires : tie.Need-drop-pair-requires
+drop-pair-requires : tie.Need-drop_pair-requires
 drop-pair-requires c κs =
-    let b = c.before.before in
-    let a = b.before.before in
-    let k = (limits-read a.args.held.now b.bracket-of.result b.bracket-of.ensures a.requires.1.0).frames in
-    let n = c.before.pairs-in.ensures in
+    let b = c in
+    let a = b in
+    let k = (limits-read a.args.held.now b.bracket_of-w.result b.bracket_of-w.ensures a.requires.1.0).frames in
+    let n = c.pairs_in-pairs.ensures in
     (a.requires.0, omega arith)
 
-put-bracket-requires : tie.Need-put-bracket-requires
+put-bracket-requires : tie.Need-put_bracket-requires
 put-bracket-requires c κs =
-    let d = c.before.before in
-    let b = d.before.before.before in
-    let a = b.before.before in
-    let size = d.drop-pair.ensures.len in
-    let ok = limits-read a.args.held.now b.bracket-of.result b.bracket-of.ensures a.requires.1.0 in
-    (omega arith, holding-ok b.bracket-of.result _ (omega (arith, ok.frames)) ok)
+    let d = c in
+    let b = d in
+    let a = b in
+    let size = d.drop_pair.ensures.len in
+    let ok = limits-read a.args.held.now b.bracket_of-w.result b.bracket_of-w.ensures a.requires.1.0 in
+    (omega arith, holding-ok b.bracket_of-w.result _ (omega (arith, ok.frames)) ok)
 
-same_length : tie.Need-same-length
+same_length : tie.Need-shape_of-held
 same_length c = search rules
 
 returns : tie.Need-returns
 returns c =
-    let d = c.before.before.before.before in
-    let p = d.before.before in
-    let b = p.before in
-    shrunk-is b.before.before.args.held.now b.bracket-of.result b.bracket-of.ensures p.pairs-in.result d.drop-pair.new.0 c.before.put-bracket.new.0
-    p.pairs-in.ensures d.drop-pair.ensures c.before.put-bracket.ensures
+    let d = c in
+    let p = d in
+    let b = p in
+    shrunk-is b.args.held.now b.bracket_of-w.result b.bracket_of-w.ensures p.pairs_in-pairs.result d.drop_pair.new.held c.put_bracket.new.held
+    p.pairs_in-pairs.ensures d.drop_pair.ensures c.put_bracket.ensures
 
 pub shrink_spec : {M : Type 1} → statement M
 shrink_spec =

@@ -38,5 +38,5 @@ returns-clause-output t c =
     let n = length_more a.n (omega arith) (omega arith) in
     let room : p.result < length p.new.out = omega (arith, put-length _ _ _ _ p.ensures.output) in
     rw (digits_more a.n (omega arith) (omega arith))
-        (put_then a.at (digits (a.n / 10)) ((48 + a.n % 10) ∷ []) a.out.now p.new.out _ p.ensures.output
-        (rw (sym p.ensures.place) (put_one p.result (48 + a.n % 10) p.new.out room)))
+    (put_then a.at (digits (a.n / 10)) ((48 + a.n % 10) ∷ []) a.out.now p.new.out _ p.ensures.output
+    (rw (sym p.ensures.place) (put_one p.result (48 + a.n % 10) p.new.out room)))

@@ -18,7 +18,7 @@ enum-known-exclusion-2 c = search rules
 between-requires : tie.Need-between-requires
 between-requires c κs =
     let s = c in
-    let ok = rw c.exclusion-in-Band-1.given.1 at s.requires.1 in
+    let ok = rw c.in-Band.is at s.requires.1 in
     (s.requires.0, (ok.least, ok.most))
 
 returns : tie.Need-returns-in-Tolerance
@@ -26,14 +26,14 @@ returns c l counted at =
     let s = c in
     let byte = s.ranges.threshold in
     let ends = c.around.ensures in
-    rw c.exclusion-1.given.1
+    rw c.in-Tolerance.is
     (tolerance-excludes _ s.args.threshold c.around.result.lo c.around.result.hi (λ p. threshold_in p l) s.args.percentile (omega arith) at ends.0 ends.1)
 
 returns-2 : tie.Need-returns-in-Band
 returns-2 c l counted at =
     let s = c in
     let ends = c.between.ensures in
-    rw c.exclusion-in-Band-1.given.1 (band-excludes _ s.args.percentile c.between.result.lo c.between.result.hi l (ends.0 l counted) (ends.1 l counted))
+    rw c.in-Band.is (band-excludes _ s.args.percentile c.between.result.lo c.between.result.hi l (ends.0 l counted) (ends.1 l counted))
 
 pub excluded_spec : {M : Type 1} → statement M
 excluded_spec =
