@@ -1,6 +1,6 @@
 -- Each return rewrites with the tests on the way there; past the end of the file there is no whitespace.
 use mathlib.Core.Path.{sym, ◌∙◌}
-use borrow.Author.Tests.{eq-eqb, ne_eqb, not-true, not-false}
+use borrow.Author.Tests.{eq-eqb, ne_eqb}
 use Rattle.p6_header.specs.P6Header.{ending}
 use Rattle.p6_whitespace.proofs.BlankLaws.{white-past}
 use borrow.Author.Rules.{rules}

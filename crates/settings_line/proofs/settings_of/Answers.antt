@@ -6,31 +6,18 @@ use native.Mathlib.Omega.{arith}
 use lib.Dec.{eqb}
 use lib.ListN.{take}
 use lib.Seq.{length-take-le}
-use borrow.Author.Rules.{rules}
 use Rattle.text.proofs.ReadLaws.{leading-in}
 use Rattle.settings_line.specs.SettingsLine.{line_of, numbers_of, settings_of}
-use Rattle.settings_line.proofs.settings_of.Statement.{statement}
-use Rattle.settings_line.proofs.settings_of.Tie as tie
+use Rattle.settings_line.proofs.settings_of.Goals as goal
 
-line-length-requires : tie.Need-line_length-n-requires
-line-length-requires c κs = search rules
-
-slice-aggregate-numbers-of : tie.Need-slice_bounds-numbers_of-end
-slice-aggregate-numbers-of c =
+pub slice_bounds-numbers_of-end : goal.slice_bounds-numbers_of-end
+slice_bounds-numbers_of-end c =
     let n = c.line_length-n in
     let input = c.args.input.now in
     sym (length-take-le n.result input (omega (arith, n.ensures, leading-in (λ b. not (eqb b 10)) input)))
 
-numbers-of-requires : tie.Need-numbers_of-requires
-numbers-of-requires c κs = search rules
-
-returns : tie.Need-returns
+pub returns : goal.returns
 unfolding settings_of line_of
 returns c =
-    c.Numbers-of.ensures
+    c.numbers_of.ensures
     ∙ ap (λ (n : ℕ). numbers_of (take n c.args.input.now)) c.line_length-n.ensures
-
-pub settings_of_spec : {M : Type 1} → statement M
-settings_of_spec =
-    tie.close
-    (tie.spec line-length-requires slice-aggregate-numbers-of numbers-of-requires returns)
