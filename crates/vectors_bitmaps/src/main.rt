@@ -2,6 +2,8 @@
 #![tactic(auto)]
 
 use rules::{Counted, Tallied, Written};
+use std::io;
+use std::rt::Files;
 use vectors::answers::{DIFFERS, number_when, written};
 use vectors::buffers::{input_words, lend_words};
 use vectors::contents::words_are;
@@ -126,25 +128,25 @@ fn agrees(data: &[u8], at: usize) -> bool {
     n == field(data, at, REFUSAL) && words_are(out, data, at, OUTPUT1)
 }
 
-fn run_records(data: &[u8]) {
+fn run_records(rt: &impl Print, data: &[u8]) -> io::Result<()> {
     let count = record_count(data);
     let mut tally = tally::start();
     let mut k: u32 = 0;
     while k < count {
         let same = agrees(data, record_at(data, k));
-        tally = tally::add_record(tally, data, same);
+        tally = tally::add_record(rt, tally, data, same)?;
         k += 1;
     }
-    tally::say_all(tally);
+    tally::say_all(rt, tally)
 }
 
 // An array of this size becomes a slice only here: the prover need not look at its elements.
-fn run(data: &mut [u8; DATA_MEMORY]) {
-    read_vectors(data);
-    run_records(data);
+fn run(rt: &(impl Files + Print), data: &mut [u8; DATA_MEMORY]) -> io::Result<()> {
+    read_vectors(rt, data);
+    run_records(rt, data)
 }
 
-fn main() {
+fn main(rt: HostRuntime) -> io::Result<()> {
     let mut data = [0u8; DATA_MEMORY];
-    run(&mut data);
+    run(&rt, &mut data)
 }

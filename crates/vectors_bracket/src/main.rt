@@ -2,6 +2,8 @@
 #![tactic(auto)]
 
 use files_text::{GREY_LENT, OUTPUT_LENT, WORDS_LENT};
+use std::io;
+use std::rt::Files;
 use vectors::buffers::fill_bytes;
 use vectors::contents::{bytes_are, same_bytes};
 use vectors_data::data::{
@@ -36,25 +38,25 @@ fn agrees(data: &[u8], at: usize) -> bool {
     text_is(n, &out, data, at)
 }
 
-fn run_records(data: &[u8]) {
+fn run_records(rt: &impl Print, data: &[u8]) -> io::Result<()> {
     let count = record_count(data);
     let mut tally = tally::start();
     let mut k: u32 = 0;
     while k < count {
         let same = agrees(data, record_at(data, k));
-        tally = tally::add_record(tally, data, same);
+        tally = tally::add_record(rt, tally, data, same)?;
         k += 1;
     }
-    tally::say_all(tally);
+    tally::say_all(rt, tally)
 }
 
 // An array of this size becomes a slice only here: the prover need not look at its elements.
-fn run(data: &mut [u8; DATA_MEMORY]) {
-    read_vectors(data);
-    run_records(data);
+fn run(rt: &(impl Files + Print), data: &mut [u8; DATA_MEMORY]) -> io::Result<()> {
+    read_vectors(rt, data);
+    run_records(rt, data)
 }
 
-fn main() {
+fn main(rt: HostRuntime) -> io::Result<()> {
     let mut data = [0u8; DATA_MEMORY];
-    run(&mut data);
+    run(&rt, &mut data)
 }

@@ -1,6 +1,10 @@
 // Numbers and parts of a data file (tests/FORMAT.md). Nothing here requires anything: past the end a
 // number is 0, and a part that does not fit is empty.
 
+use std::fs;
+use std::io::Read;
+use std::rt::Files;
+
 // Numbers of the header.
 const GROUPS: usize = 4;
 
@@ -213,8 +217,8 @@ pub fn record_at(data: &[u8], k: u32) -> usize {
 }
 
 // Reads the program's data file; where it is missing, the bytes stay as they are.
-pub fn read_vectors(data: &mut [u8]) {
-    let fd = os::open_read(b"vectors.bin");
-    io::read_full(fd, data);
-    libc::close(fd);
+pub fn read_vectors(rt: &impl Files, data: &mut [u8]) {
+    if let Ok(mut file) = fs::open(rt, "vectors.bin") {
+        let _ = file.read_exact(data);
+    }
 }

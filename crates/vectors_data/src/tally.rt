@@ -1,7 +1,7 @@
 // How many records are compared and differ, and a printed line a group.
 
 use crate::data::{group, number_at, part, pool};
-use libc::STDOUT_FILENO;
+use std::io;
 
 // Numbers of a group: place and length of its name, how many records.
 const NAME: usize = 0;
@@ -33,63 +33,61 @@ pub fn start() -> Tally {
     }
 }
 
-fn say(text: &[u8]) {
-    io::write_all(STDOUT_FILENO, text);
+fn say(rt: &impl Print, text: &[u8]) -> io::Result<()> {
+    rt.write_all(text)
 }
 
-fn say_numbers(compared: u64, differ: u64) {
-    say(b": ");
-    io::print_decimal(STDOUT_FILENO, compared);
-    say(b" compared, ");
-    io::print_decimal(STDOUT_FILENO, differ);
-    say(b" differ\n");
+fn say_numbers(rt: &impl Print, compared: u64, differ: u64) -> io::Result<()> {
+    println!(rt; ": {compared} compared, {differ} differ")
 }
 
-fn say_name(data: &[u8], group: &[u8]) {
+fn say_name(rt: &impl Print, data: &[u8], group: &[u8]) -> io::Result<()> {
     let place = number_at(group, NAME) as usize;
-    say(part(pool(data), place, number_at(group, NAME_LENGTH) as usize));
+    say(
+        rt,
+        part(pool(data), place, number_at(group, NAME_LENGTH) as usize),
+    )
 }
 
 // How many differ after record k of a group; the first few are named on the line.
-fn differing(same: bool, differ: u64, k: u64) -> u64 {
+fn differing(rt: &impl Print, same: bool, differ: u64, k: u64) -> io::Result<u64> {
     if same {
-        return differ;
+        return Ok(differ);
     }
     if differ < NAMED {
-        say(b" #");
-        io::print_decimal(STDOUT_FILENO, k);
+        print!(rt; " #{k}")?;
     }
-    std::num::wrapping_add_u64(differ, 1)
+    Ok(std::num::wrapping_add_u64(differ, 1))
 }
 
-fn end_group(tally: Tally) -> Tally {
-    say_numbers(tally.compared, tally.differ);
-    Tally {
+fn end_group(rt: &impl Print, tally: Tally) -> io::Result<Tally> {
+    say_numbers(rt, tally.compared, tally.differ)?;
+    Ok(Tally {
         group: std::num::wrapping_add_u32(tally.group, 1),
         compared: 0,
         differ: 0,
         all_compared: std::num::wrapping_add_u64(tally.all_compared, tally.compared),
         all_differ: std::num::wrapping_add_u64(tally.all_differ, tally.differ),
-    }
+    })
 }
 
 // Counts the next record of a file. The first of a group has its name printed, the last its numbers.
-pub fn add_record(tally: Tally, data: &[u8], same: bool) -> Tally {
+pub fn add_record(rt: &impl Print, tally: Tally, data: &[u8], same: bool) -> io::Result<Tally> {
     let group = group(data, tally.group);
     if tally.compared == 0 {
-        say_name(data, group);
+        say_name(rt, data, group)?;
     }
     let mut next = tally;
-    next.differ = differing(same, tally.differ, tally.compared);
+    next.differ = differing(rt, same, tally.differ, tally.compared)?;
     next.compared = std::num::wrapping_add_u64(tally.compared, 1);
     if next.compared == number_at(group, GROUP_RECORDS) as u64 {
-        return end_group(next);
+        return end_group(rt, next);
     }
-    next
+    Ok(next)
 }
 
 // The last line: all groups together.
-pub fn say_all(tally: Tally) {
-    say(b"all");
-    say_numbers(tally.all_compared, tally.all_differ);
+pub fn say_all(rt: &impl Print, tally: Tally) -> io::Result<()> {
+    say(rt, b"all")?;
+    say_numbers(rt, tally.all_compared, tally.all_differ)
 }

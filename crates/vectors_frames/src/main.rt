@@ -2,6 +2,8 @@
 #![tactic(auto)]
 
 use rules::Thresholded;
+use std::io;
+use std::rt::Files;
 use vectors::answers::{DIFFERS, number_when, written};
 use vectors::buffers::lend_bytes;
 use vectors::contents::bytes_are;
@@ -59,26 +61,30 @@ fn agrees(data: &[u8], at: usize, memory: &mut [u8]) -> bool {
     n == field(data, at, REFUSAL) && bytes_are(out, data, at, OUTPUT1)
 }
 
-fn run_records(data: &[u8], memory: &mut [u8]) {
+fn run_records(rt: &impl Print, data: &[u8], memory: &mut [u8]) -> io::Result<()> {
     let count = record_count(data);
     let mut tally = tally::start();
     let mut k: u32 = 0;
     while k < count {
         let same = agrees(data, record_at(data, k), memory);
-        tally = tally::add_record(tally, data, same);
+        tally = tally::add_record(rt, tally, data, same)?;
         k += 1;
     }
-    tally::say_all(tally);
+    tally::say_all(rt, tally)
 }
 
 // Arrays of this size become slices only here: the prover need not look at their elements.
-fn run(data: &mut [u8; DATA_MEMORY], memory: &mut [u8; BYTE_MEMORY]) {
-    read_vectors(data);
-    run_records(data, memory);
+fn run(
+    rt: &(impl Files + Print),
+    data: &mut [u8; DATA_MEMORY],
+    memory: &mut [u8; BYTE_MEMORY],
+) -> io::Result<()> {
+    read_vectors(rt, data);
+    run_records(rt, data, memory)
 }
 
-fn main() {
+fn main(rt: HostRuntime) -> io::Result<()> {
     let mut data = [0u8; DATA_MEMORY];
     let mut memory = [0u8; BYTE_MEMORY];
-    run(&mut data, &mut memory);
+    run(&rt, &mut data, &mut memory)
 }

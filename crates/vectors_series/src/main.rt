@@ -2,6 +2,8 @@
 #![tactic(auto)]
 
 use rules::Written;
+use std::io;
+use std::rt::Files;
 use vectors::answers::{DIFFERS, written};
 use vectors::buffers::{
     COMPARED, COUNT, OFFSET, input_numbers, lend_bytes, lend_counts, lend_offsets, lend_words,
@@ -240,7 +242,12 @@ fn agrees(data: &[u8], at: usize, grey: &mut [u8], words: &mut [u64]) -> bool {
     n == field(data, at, REFUSAL) && memory_kept(n, data, at, lent_grey, lent_words)
 }
 
-fn run_records(data: &mut [u8], grey: &mut [u8], words: &mut [u64]) {
+fn run_records(
+    rt: &impl Print,
+    data: &mut [u8],
+    grey: &mut [u8],
+    words: &mut [u64],
+) -> io::Result<()> {
     let count = record_count(data);
     let mut tally = tally::start();
     let mut k: u32 = 0;
@@ -248,21 +255,26 @@ fn run_records(data: &mut [u8], grey: &mut [u8], words: &mut [u64]) {
         let at = record_at(data, k);
         make_frames(data, at);
         let same = agrees(data, at, grey, words);
-        tally = tally::add_record(tally, data, same);
+        tally = tally::add_record(rt, tally, data, same)?;
         k += 1;
     }
-    tally::say_all(tally);
+    tally::say_all(rt, tally)
 }
 
 // Arrays of this size become slices only here: the prover need not look at their elements.
-fn run(data: &mut [u8; DATA_MEMORY], grey: &mut [u8; GREY_MEMORY], words: &mut [u64; WORD_MEMORY]) {
-    read_vectors(data);
-    run_records(data, grey, words);
+fn run(
+    rt: &(impl Files + Print),
+    data: &mut [u8; DATA_MEMORY],
+    grey: &mut [u8; GREY_MEMORY],
+    words: &mut [u64; WORD_MEMORY],
+) -> io::Result<()> {
+    read_vectors(rt, data);
+    run_records(rt, data, grey, words)
 }
 
-fn main() {
+fn main(rt: HostRuntime) -> io::Result<()> {
     let mut data = [0u8; DATA_MEMORY];
     let mut grey = [0u8; GREY_MEMORY];
     let mut words = [0u64; WORD_MEMORY];
-    run(&mut data, &mut grey, &mut words);
+    run(&rt, &mut data, &mut grey, &mut words)
 }

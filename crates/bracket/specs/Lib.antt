@@ -1,2 +1,2 @@
 -- A number of bytes within a buffer.
-pub mod CountLaws
+pub mod Counts
