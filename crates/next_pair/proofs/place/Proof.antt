@@ -4,11 +4,11 @@ use mathlib.Core.Path.{sym}
 use Rattle.next_pair.proofs.place.Statement.{statement}
 use Rattle.next_pair.proofs.place.Tie as tie
 
-returns : tie.Need-returns
-returns c = sym (place-even _ _ c.if1.true)
+returns : tie.Need-returns-then-k-eq0
+returns c = sym (place-even _ _ c.if-k-eq0.true)
 
-returns-2 : tie.Need-returns-2
-returns-2 c = sym (place-odd _ _ c.if1.false)
+returns-2 : tie.Need-returns-else-k-eq0
+returns-2 c = sym (place-odd _ _ c.if-k-eq0.false)
 
-pub place-spec : {M : Type 1} → statement M
-place-spec = tie.close (tie.spec returns returns-2)
+pub place_spec : {M : Type 1} → statement M
+place_spec = tie.close (tie.spec returns returns-2)
