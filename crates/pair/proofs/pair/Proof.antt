@@ -3,31 +3,31 @@ use borrow.Author.Rules.{rules}
 use Rattle.pair.proofs.pair.Statement.{statement}
 use Rattle.pair.proofs.pair.Tie as tie
 
-places-requires : tie.Need-places-requires
+places-requires : tie.Need-places-order-requires
 places-requires c κs = search rules
 
-tolerance-refusal-requires : tie.Need-tolerance-refusal-requires
+tolerance-refusal-requires : tie.Need-tolerance_refusal-requires
 tolerance-refusal-requires c κs = search rules
 
-pair-in-order-requires : tie.Need-pair-in-order-requires
+pair-in-order-requires : tie.Need-pair_in_order-requires
 pair-in-order-requires c κs = search rules
 
-same_length : tie.Need-same-length
+same_length : tie.Need-shape_of-counts
 same_length c = search rules
 
-same-length-2 : tie.Need-same-length-2
+same-length-2 : tie.Need-shape_of-compared
 same-length-2 c = search rules
 
-same-length-3 : tie.Need-same-length-3
+same-length-3 : tie.Need-shape_of-grey
 same-length-3 c = search rules
 
-same-length-4 : tie.Need-same-length-4
+same-length-4 : tie.Need-shape_of-words
 same-length-4 c = search rules
 
 returns : tie.Need-returns
 returns c =
-    let r = c.before.before.before.before.before.before.before.before in
-    rw r.before.before.before.before.before.before.before.places.ensures.0 at r.pair-in-order.ensures
+    let r = c in
+    rw r.places-order.ensures.0 at r.pair_in_order.ensures
 
 pub pair_spec : {M : Type 1} → statement M
 pair_spec =
