@@ -8,7 +8,7 @@ use lib.ListN.{length}
 use Rattle.rules.specs.Parts.{Place}
 use Rattle.blink.specs.declared.Row.{Row}
 use Rattle.blink.specs.Blink.{row_start, blink_answer}
-use Rattle.blink.proofs.BlinkLaws.{BlinkOk, blink-ok, part-refused, started}
+use Rattle.blink.proofs.BlinkLaws.{BlinkOk, blink-ok, part-refused, started, part-is}
 use Rattle.blink.proofs.blink_row.Goals as goal
 
 -- what an accepted call knows: where the row begins, and its sizes
@@ -42,3 +42,15 @@ pub slice_bounds-result-end-else-other : goal.slice_bounds-result-end-else-other
 slice_bounds-result-end-else-other c =
     let a = c.args in
     omega (arith, accepted a.w a.h a.y a.other a.first.now a.first.ref_ptr a.second.now a.second.ref_ptr _ (sym c.in-At.ensures))
+
+pub returns-then-other : goal.returns-then-other
+returns-then-other c =
+    let a = c.args in
+    part-is a.w a.h a.y a.other a.first.now a.first.ref_ptr a.second.now a.second.ref_ptr _ a.second.now a.second.ref_ptr (sym c.in-At.ensures) (rw c.if-other.true)
+    (rw c.if-other.true)
+
+pub returns-else-other : goal.returns-else-other
+returns-else-other c =
+    let a = c.args in
+    part-is a.w a.h a.y a.other a.first.now a.first.ref_ptr a.second.now a.second.ref_ptr _ a.first.now a.first.ref_ptr (sym c.in-At.ensures) (rw c.if-other.false)
+    (rw c.if-other.false)

@@ -12,86 +12,86 @@ use borrow.Author.Rules.{rules}
 use Rattle.four_quadrants.proofs.align_each.Statement.{statement}
 use Rattle.four_quadrants.proofs.align_each.Tie as tie
 
-abbrev invariant-loop : tie.invariant-loop
+abbrev invariant-loop : tie.invariant-loop-k
 invariant-loop setup first second offsets₀ grey₀ words₀ order k₀ offsets grey words k =
     (k ≤ 4)
     × (offsets ≡ written_over (offset_list k (offset_in (arranged order) setup first second)) offsets₀)
     × (length grey ≡ length grey₀)
     × (length words ≡ length words₀)
 
-abbrev decreases-loop : tie.decreases-loop
+abbrev decreases-loop : tie.decreases-loop-k
 decreases-loop setup first second offsets₀ grey₀ words₀ order k₀ offsets grey words k = 4 - k
 
-loop-holds : tie.Need-loop-init invariant-loop decreases-loop
+loop-holds : tie.Need-loop-k-init invariant-loop decreases-loop
 loop-holds c = (omega arith, none_written _ _ _ _ _, refl, refl)
 
-quadrant-at-requires : tie.Need-quadrant-at-requires invariant-loop decreases-loop
+quadrant-at-requires : tie.Need-quadrant_at-quadrant-requires invariant-loop decreases-loop
 quadrant-at-requires c κs = search rules
 
-align-quadrant-requires : tie.Need-align-quadrant-requires invariant-loop decreases-loop
+align-quadrant-requires : tie.Need-align_quadrant-m-requires invariant-loop decreases-loop
 align-quadrant-requires c κs =
-    let s = c.before.before.before.before.before.before.before.before.before in
-    let lp = c.before.before.before.before.loop in
+    let s = c in
+    let lp = c.loop-k in
     let a = s.args in (
       same_memory a.setup.w a.setup.h a.setup.s a.setup.exclusion a.setup.percentile (length a.first.now) (length a.second.now) (length a.grey.now) (length lp.grey)
           (length a.words.now) (length lp.words) lp.invariant.2 lp.invariant.3 s.requires.0,
       s.requires.1.1,
     )
 
-put-offset-requires : tie.Need-put-offset-requires invariant-loop decreases-loop
+put-offset-requires : tie.Need-put_offset-requires invariant-loop decreases-loop
 put-offset-requires c κs =
-    let s = c.before.before.before.before.before.before.before.before.before.before.before.before.before.before.before in
-    let lp = c.before.before.before.before.before.before.before.before.before.before.loop in
+    let s = c in
+    let lp = c.loop-k in
     let a = s.args in
     let room = s.requires.1.0 in
-    let l = c.before.before.before.before.before.before.before.before.before.loop-test.true in
+    let l = c.loop-k-test.true in
     put-ready (offset_in (arranged a.order.now) a.setup a.first.now a.second.now) a.offsets.now lp.offsets lp.k lp.invariant.1 (omega arith)
 
-add-k : tie.Need-overflow-add-k invariant-loop decreases-loop
+add-k : tie.Need-overflow_add-k invariant-loop decreases-loop
 add-k c = search rules
 
-loop-less : tie.Need-loop-smaller invariant-loop decreases-loop
+loop-less : tie.Need-loop-k-smaller invariant-loop decreases-loop
 loop-less c = search rules
 
-loop-again : tie.Need-loop-preserved invariant-loop decreases-loop
+loop-again : tie.Need-loop-k-preserved invariant-loop decreases-loop
 loop-again c =
-    let s = c.before.before.before.before.before.before.before.before.before.before.before.before.before.before.before.before.before in
-    let lp = c.before.before.before.before.before.before.before.before.before.before.before.before.loop in
-    let l = c.before.before.before.before.before.before.before.before.before.before.before.loop-test.true in
-    let which = c.before.before.before.before.before.before.before.before.before.before.quadrant-at in
-    let m = c.before.before.before.before.before.before.before.align-quadrant in
-    let put = c.before.put-offset in
+    let s = c in
+    let lp = c.loop-k in
+    let l = c.loop-k-test.true in
+    let which = c.quadrant_at-quadrant in
+    let m = c.align_quadrant-m in
+    let put = c.put_offset in
     let a = s.args in (
       omega arith,
-      next-written (arranged a.order.now) a.setup a.first.now a.second.now a.offsets.now lp.offsets put.new.0 lp.k which.result m.result l s.requires.1.0
+      next-written (arranged a.order.now) a.setup a.first.now a.second.now a.offsets.now lp.offsets put.new.list lp.k which.result m.result l s.requires.1.0
           lp.invariant.1 which.ensures m.ensures put.ensures,
-      m.auto.1.1.1.1.0 ∙ lp.invariant.2,
-      m.auto.1.1.1.1.1.0 ∙ lp.invariant.3,
+      m.auto.grey ∙ lp.invariant.2,
+      m.auto.words ∙ lp.invariant.3,
     )
 
-same_length : tie.Need-same-length invariant-loop decreases-loop
+same_length : tie.Need-shape_of-offsets invariant-loop decreases-loop
 same_length c =
-    let s = c.before.before.before.before.before.before in
-    let lp = c.before.loop in
+    let s = c in
+    let lp = c.loop-k in
     let a = s.args in
     let room = s.requires.1.0 in
     ap length lp.invariant.1 ∙ written-length lp.k (offset_in (arranged a.order.now) a.setup a.first.now a.second.now) a.offsets.now (omega arith)
 
-same-length-2 : tie.Need-same-length-2 invariant-loop decreases-loop
-same-length-2 c = c.before.loop.invariant.2
+same-length-2 : tie.Need-shape_of-grey invariant-loop decreases-loop
+same-length-2 c = c.loop-k.invariant.2
 
-same-length-3 : tie.Need-same-length-3 invariant-loop decreases-loop
-same-length-3 c = c.before.loop.invariant.3
+same-length-3 : tie.Need-shape_of-words invariant-loop decreases-loop
+same-length-3 c = c.loop-k.invariant.3
 
 returns : tie.Need-returns invariant-loop decreases-loop
 returns c =
-    let lp = c.before.loop in
-    let a = c.before.before.before.before.before.before.args in
+    let lp = c.loop-k in
+    let a = c.args in
     let e : lp.k ≡ 4 = omega arith in
     rw e at lp.invariant.1 ∙ ap (λ l. written_over l a.offsets.now) (all-four (arranged a.order.now) a.setup a.first.now a.second.now)
 
-pub align-each-spec : {M : Type 1} → statement M
-align-each-spec =
+pub align_each_spec : {M : Type 1} → statement M
+align_each_spec =
     tie.close
     (tie.spec
     invariant-loop

@@ -7,39 +7,39 @@ use borrow.Author.Rules.{rules}
 use Rattle.four_quadrants.proofs.align_quadrants.Statement.{statement}
 use Rattle.four_quadrants.proofs.align_quadrants.Tie as tie
 
-align-each-requires : tie.Need-align-each-requires
+align-each-requires : tie.Need-align_each-requires
 align-each-requires c κs = search rules
 
-four-turned-requires : tie.Need-four-turned-requires
+four-turned-requires : tie.Need-four_turned-requires
 four-turned-requires c κs =
-    let s = c.before.before.before.before.before.before.before.before.before.before.before.before.before.before in
+    let s = c in
     let a = s.args in
-    let each = c.before.before.before.before.before.before.align-each in
-    let size = each.auto.1.1.1.0 in
+    let each = c.align_each in
+    let size = each.auto.offsets in
     let room = s.requires.1.0 in
-    (omega arith, four-small a.order.now a.setup a.first.now a.second.now a.offsets.now each.new.1.1.1.0 s.requires.0.quadrant.shape.halvings each.ensures)
+    (omega arith, four-small a.order.now a.setup a.first.now a.second.now a.offsets.now each.new.offsets s.requires.0.quadrant.shape.halvings each.ensures)
 
-same_length : tie.Need-same-length
+same_length : tie.Need-shape_of-offsets
 same_length c = search rules
 
-same-length-2 : tie.Need-same-length-2
+same-length-2 : tie.Need-shape_of-grey
 same-length-2 c = search rules
 
-same-length-3 : tie.Need-same-length-3
+same-length-3 : tie.Need-shape_of-words
 same-length-3 c = search rules
 
 returns : tie.Need-returns
 returns c =
-    let s = c.before.before.before.before.before.before.before.before.before.before.before.before.before.before.before in
+    let s = c in
     let a = s.args in
-    let each = c.before.before.before.before.before.before.before.align-each in (
-      c.four-turned.ensures
-          ∙ ap turned (four-read a.order.now a.setup a.first.now a.second.now a.offsets.now each.new.1.1.1.0 s.requires.0.quadrant.shape.halvings each.ensures),
+    let each = c.align_each in (
+      c.four_turned.ensures
+          ∙ ap turned (four-read a.order.now a.setup a.first.now a.second.now a.offsets.now each.new.offsets s.requires.0.quadrant.shape.halvings each.ensures),
       each.ensures,
     )
 
-pub align-quadrants-spec : {M : Type 1} → statement M
-align-quadrants-spec =
+pub align_quadrants_spec : {M : Type 1} → statement M
+align_quadrants_spec =
     tie.close
     (tie.spec
     align-each-requires

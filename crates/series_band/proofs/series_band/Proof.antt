@@ -3,36 +3,36 @@ use borrow.Author.Rules.{rules}
 use Rattle.series_band.proofs.series_band.Statement.{statement}
 use Rattle.series_band.proofs.series_band.Tie as tie
 
-places-requires : tie.Need-places-requires
+places-requires : tie.Need-places-order-requires
 places-requires c κs = search rules
 
-band-refusal-requires : tie.Need-band-refusal-requires
+band-refusal-requires : tie.Need-band_refusal-requires
 band-refusal-requires c κs = search rules
 
-series-in-order-requires : tie.Need-series-in-order-requires
+series-in-order-requires : tie.Need-series_in_order-requires
 series-in-order-requires c κs = search rules
 
-same_length : tie.Need-same-length
+same_length : tie.Need-shape_of-offsets
 same_length c = search rules
 
-same-length-2 : tie.Need-same-length-2
+same-length-2 : tie.Need-shape_of-counts
 same-length-2 c = search rules
 
-same-length-3 : tie.Need-same-length-3
+same-length-3 : tie.Need-shape_of-compared
 same-length-3 c = search rules
 
-same-length-4 : tie.Need-same-length-4
+same-length-4 : tie.Need-shape_of-grey
 same-length-4 c = search rules
 
-same-length-5 : tie.Need-same-length-5
+same-length-5 : tie.Need-shape_of-words
 same-length-5 c = search rules
 
 returns : tie.Need-returns
 returns c =
-    let r = c.before.before.before.before.before.before.before.before.before in
-    rw r.before.before.before.before.before.before.before.before.places.ensures.0 at r.series-in-order.ensures
+    let r = c in
+    rw r.places-order.ensures.0 at r.series_in_order.ensures
 
-pub series-band-spec : {M : Type 1} → statement M
-series-band-spec =
+pub series_band_spec : {M : Type 1} → statement M
+series_band_spec =
     tie.close
     (tie.spec places-requires band-refusal-requires series-in-order-requires same_length same-length-2 same-length-3 same-length-4 same-length-5 returns)
