@@ -1,5 +1,6 @@
 // The centre that a coarser level gives, the nine candidates around a centre, the two orders in which
 // they are preferred, and the choice among their counts in any order of the nine.
+#![tactic(auto)]
 
 ghost use Rattle.std.specs.Prelude.{◌≡◌, ◌+◌, ◌<◌, ◌≤◌, length};
 ghost use Rattle.rules.specs.Limits.{max_offset, max_centre};

@@ -16,10 +16,10 @@ use Rattle.live_theorems.proofs.NumberLaws.{number-by}
 use Rattle.live_theorems.proofs.MadeLaws.{used_after, accepted-sizes, made-uses, SameLengths, made-lengths, step-taken, step-refused, step-lengths}
 
 -- A slice put back as it was.
-put_back : {A : Type 0} (n : ℕ) (l : List A) → written_over (take n l) l ≡ l
-put_back zero l = refl
-put_back (suc n) [] = refl
-put_back (suc n) (a ∷ l) = ap (λ (r : List _). a ∷ r) (put_back n l)
+put-back : {A : Type 0} (n : ℕ) (l : List A) → written_over (take n l) l ≡ l
+put-back zero l = refl
+put-back (suc n) [] = refl
+put-back (suc n) (a ∷ l) = ap (λ (r : List _). a ∷ r) (put-back n l)
 
 over-length : {A : Type 0} (n : ℕ) (out l : List A) → length out ≡ length (take n l) → length (written_over out l) ≡ length l
 over-length n out l e =
@@ -37,7 +37,7 @@ pub after-refused : (preferred : List Offset) (m : Memory) (c : Handed) (n : ℕ
 after-refused preferred m c n e =
     ap (λ (left : Memory). record { numbers = written_over left.numbers m.numbers; newest = written_over left.newest m.newest })
     (step-refused preferred (slices_of m c) c.call n e)
-    ∙ (λ i. record { numbers = put_back c.numbers m.numbers i; newest = put_back c.newest m.newest i })
+    ∙ (λ i. record { numbers = put-back c.numbers m.numbers i; newest = put-back c.newest m.newest i })
 
 pub after-uses : (preferred : List Offset) (u : Used) (m : Memory) (c : Handed) → Uses u (slices_of m c) → number_of (slices_of m c) c.call ≡ 0
     → Uses (used_after preferred u c.call) (after_call preferred m c)

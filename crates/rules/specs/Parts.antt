@@ -6,7 +6,7 @@ abbrev pub part_or : ℕ → List ℕ → List ℕ
 part_or zero part = part
 part_or (suc n) part = []
 
--- where a slice lies in memory: in which block, and from which of its bytes on (in a contract, `ptr`)
+-- where a slice lies in memory: in which block, and from which of its bytes on (in a contract, `ref_ptr`)
 abbrev pub Place : Type 0
 Place = ℕ × ℕ
 
