@@ -6,20 +6,20 @@ use Rattle.mtb.proofs.ValueLaws.{value-accepted, value-refused}
 use Rattle.mtb.proofs.alignment.mtb_grey_needed.Statement.{statement}
 use Rattle.mtb.proofs.alignment.mtb_grey_needed.Tie as tie
 
-shape-refusal-requires : tie.Need-shape-refusal-requires
+shape-refusal-requires : tie.Need-shape_refusal-requires
 shape-refusal-requires c κs = search rules
 
-returns : tie.Need-returns
-returns c = value-refused _ _ _ _ c.before.shape-refusal.ensures c.if1.true
+returns : tie.Need-returns-then-shape_refusal-ne0
+returns c = value-refused _ _ _ _ c.shape_refusal.ensures c.if-shape_refusal-ne0.true
 
-grey-memory-requires : tie.Need-grey-memory-requires
+grey-memory-requires : tie.Need-grey_memory-requires
 grey-memory-requires c κs =
-    let a = c.before.before.args in
-    let k = shape-ok a.w a.h a.s (sym c.before.shape-refusal.ensures ∙ c.if1.false) in
+    let a = c.args in
+    let k = shape-ok a.w a.h a.s (sym c.shape_refusal.ensures ∙ c.if-shape_refusal-ne0.false) in
     (k.size.width, k.size.height, k.halvings)
 
-returns-2 : tie.Need-returns-2
-returns-2 c = value-accepted _ _ _ _ (sym c.before.if1.false ∙ c.before.before.shape-refusal.ensures) c.grey-memory.ensures
+returns-2 : tie.Need-returns
+returns-2 c = value-accepted _ _ _ _ (sym c.if-shape_refusal-ne0.false ∙ c.shape_refusal.ensures) c.grey_memory.ensures
 
-pub mtb-grey-needed-spec : {M : Type 1} → statement M
-mtb-grey-needed-spec = tie.close (tie.spec shape-refusal-requires returns grey-memory-requires returns-2)
+pub mtb_grey_needed_spec : {M : Type 1} → statement M
+mtb_grey_needed_spec = tie.close (tie.spec shape-refusal-requires returns grey-memory-requires returns-2)

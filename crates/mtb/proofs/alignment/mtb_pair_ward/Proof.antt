@@ -6,30 +6,30 @@ use Rattle.mtb.proofs.ValueLaws.{pair_left}
 use Rattle.mtb.proofs.alignment.mtb_pair_ward.Statement.{statement}
 use Rattle.mtb.proofs.alignment.mtb_pair_ward.Tie as tie
 
-pair-ward-requires : tie.Need-pair-ward-requires
+pair-ward-requires : tie.Need-pair_ward-answer-requires
 pair-ward-requires c κs = search rules
 
-moved-into-requires : tie.Need-moved-into-requires
+moved-into-requires : tie.Need-moved_into-requires
 moved-into-requires c κs = search rules
 
-same_length : tie.Need-same-length
+same_length : tie.Need-shape_of-counts
 same_length c = search rules
 
-same-length-2 : tie.Need-same-length-2
+same-length-2 : tie.Need-shape_of-compared
 same-length-2 c = search rules
 
-same-length-3 : tie.Need-same-length-3
+same-length-3 : tie.Need-shape_of-grey
 same-length-3 c = search rules
 
-same-length-4 : tie.Need-same-length-4
+same-length-4 : tie.Need-shape_of-words
 same-length-4 c = search rules
 
 returns : tie.Need-returns
 returns c =
-    let call = c.before.before.before.before.before.before.before.before.before.before.before.pair-ward in
-    let told = c.moved-into.ensures in
+    let call = c.pair_ward-answer in
+    let told = c.moved_into.ensures in
     let left = pair_left _ _ _ _ _ _ _ _ _ _ _ _ _ _ call.ensures told.0 told.1 in
     (left.0, λ f. (ap (λ (m : Offset). m.dx) (left.1 f), ap (λ (m : Offset). m.dy) (left.1 f)))
 
-pub mtb-pair-ward-spec : {M : Type 1} → statement M
-mtb-pair-ward-spec = tie.close (tie.spec pair-ward-requires moved-into-requires same_length same-length-2 same-length-3 same-length-4 returns)
+pub mtb_pair_ward_spec : {M : Type 1} → statement M
+mtb_pair_ward_spec = tie.close (tie.spec pair-ward-requires moved-into-requires same_length same-length-2 same-length-3 same-length-4 returns)

@@ -6,16 +6,16 @@ use Rattle.mtb.proofs.greys.mtb_halve.Tie as tie
 halve-requires : tie.Need-halve-requires
 halve-requires c κs = search rules
 
-refusal-in-requires : tie.Need-refusal-in-requires
+refusal-in-requires : tie.Need-refusal_in-requires
 refusal-in-requires c κs = search rules
 
-same_length : tie.Need-same-length
+same_length : tie.Need-shape_of-out
 same_length c = search rules
 
 returns : tie.Need-returns
 returns c =
-    let call = c.before.before.before.halve in
-    fills-left _ _ _ _ _ _ call.ensures c.refusal-in.ensures
+    let call = c.halve in
+    fills-left _ _ _ _ _ _ call.ensures c.refusal_in.ensures
 
-pub mtb-halve-spec : {M : Type 1} → statement M
-mtb-halve-spec = tie.close (tie.spec halve-requires refusal-in-requires same_length returns)
+pub mtb_halve_spec : {M : Type 1} → statement M
+mtb_halve_spec = tie.close (tie.spec halve-requires refusal-in-requires same_length returns)

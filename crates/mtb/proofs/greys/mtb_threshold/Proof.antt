@@ -8,22 +8,22 @@ use Rattle.mtb.proofs.greys.mtb_threshold.Tie as tie
 threshold-requires : tie.Need-threshold-requires
 threshold-requires c κs = search rules
 
-enum-known-t : tie.Need-enum-known-t
+enum-known-t : tie.Need-enum_known-t
 enum-known-t c = search rules
 
-enum-known-n : tie.Need-enum-known-n
+enum-known-n : tie.Need-enum_known-n
 enum-known-n c = search rules
 
-returns : tie.Need-returns
+returns : tie.Need-returns-in-At
 returns c =
-    let m = thresholded-at _ _ _ (sym c.before.t.given.1 ∙ c.before.before.before.threshold.ensures) in
+    let m = thresholded-at _ _ _ (sym c.in-At.is ∙ c.threshold.ensures) in
     (m.0, m.1)
 
-returns-2 : tie.Need-returns-2
+returns-2 : tie.Need-returns-in-Refused
 returns-2 c =
-    let m = thresholded-refused _ _ _ (sym c.before.n.given.1 ∙ c.before.before.before.threshold.ensures) in
+    let m = thresholded-refused _ _ _ (sym c.in-Refused.is ∙ c.threshold.ensures) in
     (m.0, value-kept _ _ _ m.1)
 
-pub mtb-threshold-spec : {M : Type 1} → statement M
-mtb-threshold-spec =
+pub mtb_threshold_spec : {M : Type 1} → statement M
+mtb_threshold_spec =
     tie.close (tie.spec threshold-requires enum-known-t enum-known-n returns returns-2)

@@ -4,23 +4,23 @@ use Rattle.mtb.proofs.ValueLaws.{leaves-left}
 use Rattle.mtb.proofs.live_bracket.mtb_live_drop.Statement.{statement}
 use Rattle.mtb.proofs.live_bracket.mtb_live_drop.Tie as tie
 
-drop-oldest-requires : tie.Need-drop-oldest-requires
+drop-oldest-requires : tie.Need-drop_oldest-requires
 drop-oldest-requires c κs = search rules
 
-refusal-in-requires : tie.Need-refusal-in-requires
+refusal-in-requires : tie.Need-refusal_in-requires
 refusal-in-requires c κs = search rules
 
-same_length : tie.Need-same-length
+same_length : tie.Need-shape_of-held
 same_length c = search rules
 
-same-length-2 : tie.Need-same-length-2
+same-length-2 : tie.Need-shape_of-newest
 same-length-2 c = search rules
 
 returns : tie.Need-returns
 returns c =
-    let call = c.before.before.before.before.drop-oldest in
-    leaves-left _ _ _ _ _ call.ensures c.refusal-in.ensures
+    let call = c.drop_oldest in
+    leaves-left _ _ _ _ _ call.ensures c.refusal_in.ensures
 
-pub mtb-live-drop-spec : {M : Type 1} → statement M
-mtb-live-drop-spec =
+pub mtb_live_drop_spec : {M : Type 1} → statement M
+mtb_live_drop_spec =
     tie.close (tie.spec drop-oldest-requires refusal-in-requires same_length same-length-2 returns)
