@@ -8,12 +8,14 @@ ghost use Rattle.p6_whitespace.specs.Blanks.{comment_length, blank_length, white
 // The byte that begins a comment.
 const HASH: u8 = b'#';
 
+#[tactic(auto, unfolding(crate::specs::Whitespace::is_white))]
 pub fn is_white(b: u8) -> bool
     ensures { result ≡ is_white b }
 {
     b == 9 || (b == 10 || (b == 13 || b == 32))
 }
 
+#[tactic(auto, unfolding(crate::specs::Whitespace::ends_line))]
 fn ends_line(b: u8) -> bool
     ensures { result ≡ ends_line b }
 {

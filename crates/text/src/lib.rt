@@ -15,6 +15,7 @@ pub enum Number {
     Bad,
 }
 
+#[tactic(auto, unfolding(crate::specs::Digits::is_digit))]
 fn is_digit(b: u8) -> bool
     ensures { result ≡ is_digit b }
 {

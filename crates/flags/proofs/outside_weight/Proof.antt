@@ -28,7 +28,7 @@ returns c =
 returns-2 : tie.Need-returns
 returns-2 c =
     let a = c.args in
-    sym (ap (λ (b : ℕ). b * a.weight) (outside-first a.lo a.hi a.g (omega arith) (omega arith) (omega arith) c.if-hi-lo.false) ∙ zero-mul a.weight)
+    sym (ap (λ (b : ℕ). b * a.weight) (outside-first a.lo a.hi a.g (omega arith) (omega arith) (omega arith) (omega arith)) ∙ zero-mul a.weight)
 
 pub outside_weight_spec : {M : Type 1} → statement M
 outside_weight_spec = tie.close (tie.spec sub-place add-place sub-if1 cast-if1 returns returns-2)

@@ -1,5 +1,6 @@
 -- An accepted add finds numbers within their limits, and room for a frame.
 use mathlib.Core.Path.{◌≡◌, sym, ◌∙◌}
+use native.Mathlib.Omega.{arith}
 use borrow.Author.Rules.{rules}
 use lib.ListN.{length}
 use Rattle.rules.specs.Levels.{least_move_order}
@@ -40,7 +41,8 @@ grow-requires : tie.Need-grow-requires
 grow-requires c κs =
     let e = c in
     let l = (start e.before.before.before.before.before).args.held.now in
-    let ok = add_ok (bad_held l) (bracket_of l) _ _ _ _ _ (sym e.add_refusal-n.ensures ∙ e.if-n-ne0.false) in
+    let none : e.add_refusal-n.result ≡ 0 = omega arith in
+    let ok = add_ok (bad_held l) (bracket_of l) _ _ _ _ _ (sym e.add_refusal-n.ensures ∙ none) in
     ((held-ok l ok.limits).0, rw ok.limits at ok)
 
 same-length-2 : tie.Need-shape_of-held

@@ -1,5 +1,6 @@
 -- An accepted drop finds a frame, and numbers within their limits.
 use mathlib.Core.Path.{◌≡◌, sym, ◌∙◌}
+use native.Mathlib.Omega.{arith}
 use borrow.Author.Rules.{rules}
 use Rattle.rules.specs.Levels.{least_move_order}
 use Rattle.live.specs.Held.{Memory, memory_of, bracket_of}
@@ -31,7 +32,8 @@ shrink-requires : tie.Need-shrink-requires
 shrink-requires c κs =
     let e = c in
     let l = e.args.held.now in
-    let ok = drop-ok (bad_held l) (bracket_of l) _ _ (sym e.drop_refusal-n.ensures ∙ e.if-n-ne0.false) in
+    let none : e.drop_refusal-n.result ≡ 0 = omega arith in
+    let ok = drop-ok (bad_held l) (bracket_of l) _ _ (sym e.drop_refusal-n.ensures ∙ none) in
     (ok.exact1, ((held-ok l ok.limits).0, ok.some))
 
 same-length-2 : tie.Need-shape_of-held

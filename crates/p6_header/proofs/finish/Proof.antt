@@ -1,8 +1,10 @@
 -- Each return rewrites with the tests on the way there; past the end of the file there is no whitespace.
-use mathlib.Core.Path.{sym, ◌∙◌}
+use mathlib.Core.Path.{◌≡◌, sym, ◌∙◌}
+use mathlib.Core.Bool.{true}
 use borrow.Author.Tests.{eq-eqb, ne_eqb}
 use Rattle.p6_header.specs.P6Header.{ending}
 use Rattle.p6_whitespace.proofs.BlankLaws.{white-past}
+use native.Mathlib.Omega.{arith}
 use borrow.Author.Rules.{rules}
 use Rattle.p6_header.proofs.finish.Statement.{statement}
 use Rattle.p6_header.proofs.finish.Tie as tie
@@ -36,9 +38,10 @@ add_start c = search rules
 returns-4 : tie.Need-returns
 unfolding ending
 returns-4 c =
-    let else2 = c in
-    let a = else2.args in
-    simp (eq-eqb a.largest 255 else2.if-largest-ne-LARGEST.false, sym c.is_white.ensures ∙ c.if-not-is_white.false)
+    let a = c.args in
+    let whole : a.largest ≡ 255 = omega arith in
+    let white : c.is_white.result ≡ true = search rules in
+    simp (eq-eqb a.largest 255 whole, sym c.is_white.ensures ∙ white)
 
 pub finish_spec : {M : Type 1} → statement M
 finish_spec =

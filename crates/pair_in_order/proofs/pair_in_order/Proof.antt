@@ -7,6 +7,7 @@ use Rattle.rules.specs.Refusals.{pair_refusal}
 use Rattle.rules.specs.Calls.{pair_number, pair_result}
 use Rattle.rules.proofs.AlignmentLaws.{pair_ok}
 use Rattle.pair_in_order.proofs.PairCallLaws.{refused-left, accepted-left}
+use native.Mathlib.Omega.{arith}
 use borrow.Author.Rules.{rules}
 use Rattle.pair_in_order.proofs.pair_in_order.Statement.{statement}
 use Rattle.pair_in_order.proofs.pair_in_order.Tie as tie
@@ -48,9 +49,10 @@ returns c =
 align-rasters-requires : tie.Need-align_rasters-requires
 align-rasters-requires c κs =
     let d = c in
+    let none : c.pair_refusal-n.result ≡ 0 = omega arith in
     let a = (begun d.before.before.before.before.before).args in (
       pair_ok a.setup.w a.setup.h a.setup.s a.setup.exclusion a.setup.percentile (length a.first.now) (length a.second.now) (length a.counts.now)
-          (length a.compared.now) (length a.grey.now) (length a.words.now) (sym (number_is d.before.before.before.before.before) ∙ c.if-n-ne0.false),
+          (length a.compared.now) (length a.grey.now) (length a.words.now) (sym (number_is d.before.before.before.before.before) ∙ none),
       (begun d.before.before.before.before.before).requires.1,
     )
 

@@ -9,6 +9,7 @@ use Rattle.rules.specs.Calls.{series_number}
 use Rattle.rules.proofs.AlignmentLaws.{series-ok}
 use Rattle.series_in_order.specs.Settings.{settings_of}
 use Rattle.series_in_order.proofs.SeriesAnswerLaws.{refused-left, accepted-left}
+use native.Mathlib.Omega.{arith}
 use borrow.Author.Rules.{rules}
 use Rattle.series_in_order.proofs.series_in_order.Statement.{statement}
 use Rattle.series_in_order.proofs.series_in_order.Tie as tie
@@ -52,9 +53,10 @@ returns c =
 align-series-requires : tie.Need-align_series-requires
 align-series-requires c κs =
     let d = c in
+    let none : c.series_refusal-number.result ≡ 0 = omega arith in
     let a = (begun d.before.before.before.before.before.before).args in (
       series-ok a.setup.w a.setup.h a.setup.s a.setup.exclusion a.n a.r a.percentiles.now (length a.rasters.now) (length a.offsets.now)
-          (length a.counts.now) (length a.compared.now) (length a.grey.now) (length a.words.now) (sym (number_is d.before.before.before.before.before.before) ∙ c.if-number-ne0.false),
+          (length a.counts.now) (length a.compared.now) (length a.grey.now) (length a.words.now) (sym (number_is d.before.before.before.before.before.before) ∙ none),
       (begun d.before.before.before.before.before.before).requires.1,
     )
 
