@@ -54,12 +54,11 @@
  *
  * STACK
  *   Bytes, with stacked arguments and return address:
- *     mtb_pair, mtb_pair_ward                         6152 + 416*s, so 9480 at most
- *     mtb_pair_band                                   6168 + 416*s, so 9496 at most
- *     mtb_series, mtb_series_ward, mtb_series_band    6408 + 416*s, so 9736 at most
- *     mtb_live_add                                    6600 + 416*s, so 9928 at most
- *     mtb_quadrants                                   6664 + 416*s, so 9992 at most
- *     mtb_threshold 4160, mtb_difference 1040, mtb_shift 688; every other function: below 400
+ *     mtb_pair, mtb_pair_ward, mtb_pair_band          6848 + 240*s, so 8768 at most
+ *     mtb_series, mtb_series_ward, mtb_series_band    7056 + 240*s, so 8976 at most
+ *     mtb_live_add                                    7296 + 240*s, so 9216 at most
+ *     mtb_quadrants                                   7360 + 240*s, so 9280 at most
+ *     mtb_threshold 6272, mtb_difference 1024, mtb_shift 672; every other function: below 400
  *   Measured, not proved (tests/outside/run stack): each call was run on a painted stack, and the deepest changed
  *   byte was looked for, over frames from 1 by 1 to 4096 by 4096 with every s that they allow and
  *   series of up to 16 frames. Another build of the archive may differ: leave a margin.

@@ -3,14 +3,17 @@
 
 ghost use Rattle.std.specs.Prelude.{◌+◌, ◌*◌, ◌≤◌, length};
 ghost use Rattle.rules.specs.Bitmaps.{row_words};
-ghost use Rattle.rules.specs.Levels.{Arrangement, arranged};
-ghost use Rattle.popcount.specs.Table.{CountsBits};
+ghost use Rattle.rules.specs.Levels.{arranged};
 ghost use Rattle.align.specs.Aligns.{Frames, Aligns};
 
-use candidates::doubled;
+use candidates::{Ranking, doubled};
 use level::align_level;
+use popcount::table::BitCounts;
 use pyramid::halve_within;
 use rules::{Offset, Setup};
+
+// The counts of nine candidates on nine levels, the most that a pair has.
+pub const MOST_COUNTS: usize = 81;
 
 // Aligns the grey frames that stand at `first` and at `second` of the lent memory, one of them at its
 // beginning and one right after it. Each coarser level is written into the remainder.
@@ -23,24 +26,16 @@ pub fn align_frames(
     counts: &mut [u32],
     compared: &mut [u32],
     at: usize,
-    order: &[usize; 9],
-    table: &[u8; 256],
+    order: &Ranking,
+    table: &BitCounts,
 ) -> Offset
     requires frames { Frames first second setup (length grey.old) }
     requires room { 6 * (row_words setup.w * setup.h) ≤ length words.old }
     requires levels { (at + 9 * (setup.s + 1) ≤ length counts.old) × (at + 9 * (setup.s + 1) ≤ length compared.old) }
-    requires order { Arrangement order.now }
-    requires table { CountsBits table.now }
-    ensures { Aligns (arranged order.now) setup first second at
+    ensures { Aligns (arranged order.now.places) setup first second at
         grey.old grey.new counts.old counts.new compared.old compared.new result }
 {
-    let Setup {
-        w,
-        h,
-        s,
-        percentile,
-        exclusion,
-    } = setup;
+    let Setup { w, h, s, .. } = setup;
     if s == 0 {
         let origin = Offset { dx: 0, dy: 0 };
         return align_level(
@@ -55,8 +50,7 @@ pub fn align_frames(
         w: w / 2,
         h: h / 2,
         s: s - 1,
-        percentile,
-        exclusion,
+        ..setup
     };
     let coarse = align_frames(
         &mut grey[rest..],

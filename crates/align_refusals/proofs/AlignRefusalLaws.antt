@@ -1,12 +1,10 @@
 -- Laws of the numbers that stand first, and of the walk over the percentiles.
-use mathlib.Core.Path.{◌≡◌, refl, ◌∙◌}
-use mathlib.Core.Bool.{true, false}
-use mathlib.Core.List.{List}
-use Prim.Native.Nat.{ℕ, zero, suc, ◌+◌, ◌≤◌, ◌<◌}
-use native.Mathlib.Numerals.{add-one}
+use mathlib.Core.Path.{◌≡◌, refl, ap}
+use mathlib.Core.Bool.{Bool, ◌||◌}
+use mathlib.Core.List.{List, [], ◌∷◌}
+use Prim.Native.Nat.{ℕ, zero, suc}
 use native.Mathlib.Omega.{arith}
-use lib.ListN.{length, drop, get_or, drop_of_length-le}
-use lib.Seq.{drop-cons}
+use Rattle.std.specs.List.{list_any}
 use Rattle.rules.specs.Refusals.{◌when◌, ◌or_else◌, bad_size, bad_halvings, too_small, shape_refusal, bad_frames, bad_reference, bad_percentile, some_bad_percentile}
 
 -- A number k of three conditions, the first of a call's: where it is not 0 it is the call's, else the rest is.
@@ -40,17 +38,8 @@ pub frames-pass : (excluded n r k : ℕ) → k ≡ excluded or_else 6 when bad_f
     → excluded or_else 6 when bad_frames n or_else 7 when bad_reference n r or_else rest ≡ rest
 frames-pass excluded n r k e z rest = none-of-three k excluded (6 when bad_frames n) (7 when bad_reference n r) rest e z
 
--- The percentiles passed are good, so the rest decides whether one is bad.
-pub bad-rest : (ps : List ℕ) (k : ℕ) → k < length ps → some_bad_percentile ps ≡ some_bad_percentile (drop k ps) → bad_percentile (get_or ps k 0) ≡ false
-    → some_bad_percentile ps ≡ some_bad_percentile (drop (k + 1) ps)
+-- whether one is bad, by std's word
+pub some-bad-any : (ps : List ℕ) → some_bad_percentile ps ≡ list_any bad_percentile ps
 unfolding some_bad_percentile
-bad-rest ps k l e b = e ∙ rw (add-one, drop-cons ps k 0, b)
-
-pub bad-here : (ps : List ℕ) (k : ℕ) → k < length ps → some_bad_percentile ps ≡ some_bad_percentile (drop k ps) → bad_percentile (get_or ps k 0) ≡ true
-    → some_bad_percentile ps ≡ true
-unfolding some_bad_percentile
-bad-here ps k l e b = e ∙ rw (drop-cons ps k 0, b)
-
-pub bad-none : (ps : List ℕ) (k : ℕ) → length ps ≤ k → some_bad_percentile ps ≡ some_bad_percentile (drop k ps) → some_bad_percentile ps ≡ false
-unfolding some_bad_percentile
-bad-none ps k l e = e ∙ rw (drop_of_length-le)
+some-bad-any [] = refl
+some-bad-any (p ∷ ps) = ap (λ (t : Bool). bad_percentile p || t) (some-bad-any ps)

@@ -1,4 +1,8 @@
 -- Laws of the common area: signed tests and sums as the machine reads them, the sides frame by frame, and the refusal numbers.
+use Rattle.rules.specs.Answers.{answer_for}
+use Rattle.rules.specs.declared.Refusal.{Refusal}
+use Rattle.rules.specs.RefusalNumbers.{number_of}
+use Rattle.std.specs.Prelude.{Ok, Err}
 use mathlib.Core.Path.{◌≡◌, refl, sym, ap, fun_ext, ◌∙◌}
 use mathlib.Core.Bool.{Bool, true, false, ◌||◌, not, cond, true≢false}
 use mathlib.Core.List.{List, [], ◌∷◌}
@@ -6,21 +10,21 @@ use Prim.Native.Nat.{ℕ, zero, suc, ◌+◌, ◌*◌, ◌^◌, ◌≤◌, ◌<�
 use native.Mathlib.Nat.{add-zero}
 use native.Mathlib.Numerals.{add-one}
 use native.Mathlib.Omega.{arith}
+use Rattle.std.specs.List.{list_any}
+use Rattle.std.specs.Int.{int_min, int_max}
 use lib.Dec.{T, ltb}
 use lib.IntN.{ℤ, pos, negsuc, nat_abs, ◌+ℤ◌}
-use lib.ListN.{length, get_or, drop, drop_of_length-le}
-use lib.Seq.{drop-cons}
+use lib.ListN.{length, get_or}
 use lib.Signed.{mag, lt_z, non_neg}
 use mir.Syntax.{w32, w64}
 use mir.Val.{Fits, SFits, to_z, of_z}
 use mir.Facts.{to_z-of_z, to_z_pos, Fits-nat_abs}
 use borrow.Author.Tests.{ltb-false}
 use Rattle.rules.specs.Refusals.{◌when◌, ◌or_else◌, bad_size, bad_frames, wrong_length}
-use Rattle.rules.proofs.RefusalLaws.{size_ok, when-no, or_else-no, or_no, length-is}
+use Rattle.rules.proofs.RefusalLaws.{size_ok, when-no, or_else-no, or_no, length-is, number-nonzero}
 use Rattle.rules.proofs.SignedLaws.{sum_fits, small-fits}
 use Rattle.area.specs.declared.Area.{Area}
-use Rattle.area.specs.declared.Common.{Common}
-use Rattle.area.specs.Common.{dx_of, larger, smaller, low_side, high_side, outside, some_outside, nothing_common, area_refusal, common_area, common}
+use Rattle.area.specs.Common.{dx_of, larger, smaller, low_side, high_side, outside, some_outside, nothing_common, area_refusal, common_area}
 use Rattle.area.specs.Sides.{axis_of, offsets_refusal, InRange}
 
 -- ---- numbers as the machine reads them
@@ -58,6 +62,11 @@ pub low-more : (k : ℕ) (d : ℕ → ℤ) → larger (low_side k d) (d k) ≡ l
 unfolding low_side
 low-more k d = rw (add-one k)
 
+-- a turn, by std's words for the larger and the smaller of two
+pub low_turn : (k : ℕ) (d : ℕ → ℤ) (low z : ℤ) → low ≡ low_side k d → z ≡ d k → int_max z low ≡ low_side (k + 1) d
+unfolding larger
+low_turn k d low z e f = rw (e, f) (low-more k d)
+
 pub high-none : (side : ℕ) (d : ℕ → ℤ) → pos side ≡ high_side side 0 d
 unfolding high_side
 high-none side d = refl
@@ -65,6 +74,10 @@ high-none side d = refl
 pub high-more : (side k : ℕ) (d : ℕ → ℤ) → smaller (high_side side k d) (pos side +ℤ d k) ≡ high_side side (k + 1) d
 unfolding high_side
 high-more side k d = rw (add-one k)
+
+pub high_turn : (side k : ℕ) (d : ℕ → ℤ) (high z : ℤ) → high ≡ high_side side k d → z ≡ pos side +ℤ d k → int_min high z ≡ high_side side (k + 1) d
+unfolding smaller
+high_turn side k d high z e f = rw (e, f) (high-more side k d)
 
 above : (a b : ℤ) → T (non_neg a) → lt_z a b ≡ true → T (non_neg b)
 above (pos a) (pos b) p e = tt
@@ -97,19 +110,11 @@ in-range [] e k m = absurd (omega arith)
 in-range (z ∷ l) e zero m = near-inside z (or_no (outside z) (some_outside l) e).0
 in-range (z ∷ l) e (suc k) m = in-range l (or_no (outside z) (some_outside l) e).1 k (omega arith)
 
--- The numbers passed are inside, so the rest decides.
-module _ (l : List ℤ) (k : ℕ) (e : some_outside l ≡ some_outside (drop k l)) where
-  pub outside-rest : k < length l → outside (get_or l k (pos 0)) ≡ false → some_outside l ≡ some_outside (drop (k + 1) l)
-  unfolding some_outside
-  outside-rest m b = e ∙ rw (add-one, drop-cons l k (pos 0), b)
-
-  pub outside-here : k < length l → outside (get_or l k (pos 0)) ≡ true → some_outside l ≡ true
-  unfolding some_outside
-  outside-here m b = e ∙ rw (drop-cons l k (pos 0), b)
-
-  pub outside-none : length l ≤ k → some_outside l ≡ false
-  unfolding some_outside
-  outside-none m = e ∙ rw drop_of_length-le
+-- by std's word
+pub some-any : (l : List ℤ) → some_outside l ≡ list_any outside l
+unfolding some_outside
+some-any [] = refl
+some-any (z ∷ l) = ap (λ (t : Bool). outside z || t) (some-any l)
 
 -- ---- the area from its sides
 
@@ -157,15 +162,15 @@ module _ (w h n : ℕ) (offsets : List ℤ) (l r t b : ℤ) (columns : Bounds w 
   nothing_is = rw (columns.low-is, columns.high_is, lines.low-is, lines.high_is, columns-are offsets)
 
   pub area-told : lt_z (to_z w32 (of_z w32 l)) (to_z w32 (of_z w32 r)) ≡ true → lt_z (to_z w32 (of_z w32 t)) (to_z w32 (of_z w32 b)) ≡ true
-      → Common.Area (cast_area l r t b) ≡ common (13 when nothing_common w h n offsets) (common_area w h n offsets)
+      → Ok (cast_area l r t b) ≡ answer_for (13 when nothing_common w h n offsets) (common_area w h n offsets)
   area-told p q = rw (← nothing_is, told w n (axis_of offsets 0) l r columns true p, told h n (axis_of offsets 1) t b lines true q, cast_is)
 
   pub no-column : lt_z (to_z w32 (of_z w32 l)) (to_z w32 (of_z w32 r)) ≡ false
-      → Common.Refused 13 ≡ common (13 when nothing_common w h n offsets) (common_area w h n offsets)
+      → Err 13 ≡ answer_for (13 when nothing_common w h n offsets) (common_area w h n offsets)
   no-column p = rw (← nothing_is, told w n (axis_of offsets 0) l r columns false p)
 
   pub no_row : lt_z (to_z w32 (of_z w32 l)) (to_z w32 (of_z w32 r)) ≡ true → lt_z (to_z w32 (of_z w32 t)) (to_z w32 (of_z w32 b)) ≡ false
-      → Common.Refused 13 ≡ common (13 when nothing_common w h n offsets) (common_area w h n offsets)
+      → Err 13 ≡ answer_for (13 when nothing_common w h n offsets) (common_area w h n offsets)
   no_row p q = rw (← nothing_is, told w n (axis_of offsets 0) l r columns true p, told h n (axis_of offsets 1) t b lines false q)
 
 -- ---- the refusal numbers
@@ -185,9 +190,10 @@ refusal-split w h n offsets =
     ap (λ (m : ℕ). n2 or_else m) (ap (λ (m : ℕ). n6 or_else m) (or_else-assoc n9 n12 n13) ∙ or_else-assoc n6 (n9 or_else n12) n13)
     ∙ or_else-assoc n2 (n6 or_else n9 or_else n12) n13
 
-pub refused-first : (n m : ℕ) (a : Area) → (n ≡ 0 → ⊥) → Common.Refused n ≡ common (n or_else m) a
-refused-first zero m a l = absurd (l refl)
-refused-first (suc n) m a l = refl
+-- a refusal whose number stands first
+pub refused-before : (e : Refusal) (n m : ℕ) (a : Area) → number_of e ≡ n → Err (number_of e) ≡ answer_for (n or_else m) a
+refused-before e zero m a is = absurd (number-nonzero e is)
+refused-before e (suc n) m a is = ap Err is
 
 -- What is known once no number but 13 can apply.
 pub record OffsetsOk (w h n : ℕ) (offsets : List ℤ) : Type 0 where

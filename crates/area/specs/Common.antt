@@ -1,9 +1,9 @@
 -- Common area of N offsets: "columns from max(0, all dx) up to, not including, min(w, all w+dx); rows likewise".
-use Rattle.std.specs.Prelude.{Bool, ◌||◌, not, cond, false, List, [], ◌∷◌, ℕ, zero, suc, ◌+◌, ◌*◌, ℤ, pos, negsuc, nat_abs, ◌+ℤ◌, length, get_or}
+use Rattle.std.specs.Prelude.{Bool, ◌||◌, not, cond, false, List, [], ◌∷◌, ℕ, zero, suc, ◌+◌, ◌*◌, ℤ, pos, negsuc, nat_abs, ◌+ℤ◌, length, get_or, Result, Ok, Err}
+use Rattle.rules.specs.Answers.{answer_for}
 use Rattle.std.specs.Int.Signed.{lt_z}
 use Rattle.rules.specs.Refusals.{◌when◌, ◌or_else◌, bad_size, bad_frames, wrong_length}
 use Rattle.area.specs.declared.Area.{Area}
-use Rattle.area.specs.declared.Common.{Common}
 
 -- dx and dy of frame k: "2·N signed 32-bit numbers, dx before dy"
 abbrev pub dx_of : List ℤ → ℕ → ℤ
@@ -60,9 +60,5 @@ common_area w h n offsets =
       bottom = nat_abs (high_side h n (dy_of offsets));
     }
 
-abbrev pub common : ℕ → Area → Common
-common zero area = Common.Area area
-common (suc n) area = Common.Refused (suc n)
-
-abbrev pub area_answer : ℕ → ℕ → ℕ → List ℤ → Common
-area_answer w h n offsets = common (area_refusal w h n offsets) (common_area w h n offsets)
+abbrev pub area_answer : ℕ → ℕ → ℕ → List ℤ → Result Area ℕ
+area_answer w h n offsets = answer_for (area_refusal w h n offsets) (common_area w h n offsets)

@@ -1,14 +1,17 @@
 // The common area of a series' frames: the offered call.
 #![tactic(auto)]
 
+ghost use Rattle.rules.specs.Answers.{answer_for};
+ghost use Rattle.rules.specs.RefusalNumbers.{number_in, coded};
 ghost use Rattle.std.specs.Prelude.{◌≡◌, ◌*◌, ◌≤◌, length};
-ghost use Rattle.area.specs.Common.{nothing_common, common_area, common, area_answer};
+ghost use Rattle.area.specs.Common.{nothing_common, common_area, area_answer};
 ghost use Rattle.rules.specs.Limits.{max_side};
 ghost use Rattle.rules.specs.Refusals.{◌when◌};
 ghost use Rattle.area.specs.Sides.{offsets_refusal, InRange};
 
 use ranges::some_outside;
-use refusals::{Faults, NONE, bad_frames, bad_size, lowest};
+use refusals::{Faults, NONE, bad_frames, lowest, size_refusal};
+use rules::Refusal;
 use sides::{high_side, low_side};
 
 mod ranges;
@@ -23,22 +26,14 @@ pub struct Area {
     pub bottom: usize,
 }
 
-// The answer of the common-area call.
-#[derive(Clone, Copy)]
-pub enum Common {
-    Area(Area),
-    Refused(u32),
-}
-
-// The number, as far as no side of the area is asked.
-fn offsets_refusal(w: usize, h: usize, n: usize, offsets: &[i32]) -> u32
-    ensures { result ≡ offsets_refusal w h n offsets.now }
+// What refuses the call, as far as no side of the area is asked.
+#[tactic(auto, unfolding(crate::specs::Sides::offsets_refusal, rules::specs::Refusals::bad_frames))]
+fn offsets_refusal(w: usize, h: usize, n: usize, offsets: &[i32]) -> Result<(), Refusal>
+    ensures { number_in result ≡ offsets_refusal w h n offsets.now }
 {
-    if bad_size(w, h) {
-        return 2;
-    }
+    size_refusal(w, h)?;
     if bad_frames(n) {
-        return 6;
+        return Err(Refusal::Frames);
     }
     let numbers = 2 * n;
     lowest(Faults {
@@ -49,38 +44,32 @@ fn offsets_refusal(w: usize, h: usize, n: usize, offsets: &[i32]) -> u32
 }
 
 // The area that every frame has, from offsets that are near enough for their sums.
-fn overlap(w: usize, h: usize, n: usize, offsets: &[i32]) -> Common
+fn overlap(w: usize, h: usize, n: usize, offsets: &[i32]) -> Result<Area, Refusal>
     requires width { w ≤ max_side }
     requires height { h ≤ max_side }
     requires exact { length offsets.now ≡ 2 * n }
     requires near { InRange offsets.now }
-    ensures { result ≡ common (13 when nothing_common w h n offsets.now) (common_area w h n offsets.now) }
+    ensures { coded result ≡ answer_for (13 when nothing_common w h n offsets.now) (common_area w h n offsets.now) }
 {
     let left = low_side(offsets, n, 0);
     let right = high_side(offsets, n, 0, w);
     let top = low_side(offsets, n, 1);
     let bottom = high_side(offsets, n, 1, h);
-    if left < right {
-        if top < bottom {
-            return Common::Area(Area {
-                left: left as usize,
-                right: right as usize,
-                top: top as usize,
-                bottom: bottom as usize,
-            });
-        }
-        return Common::Refused(13);
+    if left < right && top < bottom {
+        return Ok(Area {
+            left: left as usize,
+            right: right as usize,
+            top: top as usize,
+            bottom: bottom as usize,
+        });
     }
-    Common::Refused(13)
+    Err(Refusal::Apart)
 }
 
 // The common area of n frames at their offsets.
-pub fn common_area(w: usize, h: usize, n: usize, offsets: &[i32]) -> Common
-    ensures { result ≡ area_answer w h n offsets.now }
+pub fn common_area(w: usize, h: usize, n: usize, offsets: &[i32]) -> Result<Area, Refusal>
+    ensures { coded result ≡ area_answer w h n offsets.now }
 {
-    let refusal = offsets_refusal(w, h, n, offsets);
-    if refusal != 0 {
-        return Common::Refused(refusal);
-    }
+    offsets_refusal(w, h, n, offsets)?;
     overlap(w, h, n, offsets)
 }

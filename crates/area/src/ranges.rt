@@ -7,24 +7,15 @@ const LOWEST: i32 = -32768;
 
 const HIGHEST: i32 = 32767;
 
+#[tactic(auto, unfolding(crate::specs::Common::outside))]
 fn outside(d: i32) -> bool
     ensures { result ≡ outside d }
 {
-    if d < LOWEST {
-        return true;
-    }
-    HIGHEST < d
+    d < LOWEST || HIGHEST < d
 }
 
 pub fn some_outside(offsets: &[i32]) -> bool
     ensures { result ≡ some_outside offsets.now }
 {
-    let mut k: usize = 0;
-    while k < offsets.len() {
-        if outside(offsets[k]) {
-            return true;
-        }
-        k += 1;
-    }
-    false
+    offsets.iter().any(|d| outside(*d))
 }

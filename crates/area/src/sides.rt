@@ -2,26 +2,8 @@
 
 ghost use Rattle.std.specs.Prelude.{◌≡◌, ◌*◌, ◌<◌, ◌≤◌, length};
 ghost use Rattle.rules.specs.Limits.{max_side};
-ghost use Rattle.area.specs.Common.{larger, smaller, low_side, high_side};
+ghost use Rattle.area.specs.Common.{low_side, high_side};
 ghost use Rattle.area.specs.Sides.{axis_of, InRange};
-
-fn larger(a: i32, b: i32) -> i32
-    ensures { result ≡ larger a b }
-{
-    if a < b {
-        return b;
-    }
-    a
-}
-
-fn smaller(a: i32, b: i32) -> i32
-    ensures { result ≡ smaller a b }
-{
-    if b < a {
-        return b;
-    }
-    a
-}
 
 // The first column or row that every frame has.
 pub fn low_side(offsets: &[i32], n: usize, axis: usize) -> i32
@@ -29,10 +11,8 @@ pub fn low_side(offsets: &[i32], n: usize, axis: usize) -> i32
     ensures { result ≡ low_side n (axis_of offsets.now axis) }
 {
     let mut low: i32 = 0;
-    let mut k: usize = 0;
-    while k < n {
-        low = larger(low, offsets[2 * k + axis]);
-        k += 1;
+    for k in 0..n {
+        low = offsets[2 * k + axis].max(low);
     }
     low
 }
@@ -45,10 +25,8 @@ pub fn high_side(offsets: &[i32], n: usize, axis: usize, side: usize) -> i32
 {
     let whole = side as i32;
     let mut high = whole;
-    let mut k: usize = 0;
-    while k < n {
-        high = smaller(high, whole + offsets[2 * k + axis]);
-        k += 1;
+    for k in 0..n {
+        high = high.min(whole + offsets[2 * k + axis]);
     }
     high
 }

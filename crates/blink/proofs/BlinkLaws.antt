@@ -1,4 +1,6 @@
 -- Laws of the blink row: what an accepted call knows, and what the companion's answer tells.
+use Rattle.rules.specs.Answers.{answer_for}
+use Rattle.std.specs.Prelude.{Ok, Err}
 use mathlib.Core.Path.{◌≡◌, refl, ap₂}
 use mathlib.Core.Bool.{Bool, ◌||◌, not, cond}
 use mathlib.Core.List.{List, []}
@@ -13,8 +15,7 @@ use Rattle.rules.specs.Accepted.{SizeOk}
 use Rattle.rules.proofs.RefusalLaws.{size_ok, when-no, or_else-no, or_no, length-is}
 use Rattle.rules.proofs.FrameLaws.{row_fits}
 use Rattle.rules.specs.Parts.{part_or, Place, place_from}
-use Rattle.blink.specs.declared.Row.{Row}
-use Rattle.blink.specs.Blink.{blink_refusal, row_start, raster_row, BlinkCall, row_at, blink_answer}
+use Rattle.blink.specs.Blink.{blink_refusal, row_start, raster_row, BlinkCall, blink_answer}
 
 -- What an accepted call knows.
 pub record BlinkOk (w h y first second : ℕ) : Type 0 where
@@ -45,19 +46,19 @@ blink-ok w h y first second e =
       inside = row_inside w h y (ltb-true y h s);
     }
 
-pub row-refused : (n start : ℕ) → (n ≡ 0 → ⊥) → Row.Refused n ≡ row_at n start
+pub row-refused : (n start : ℕ) → (n ≡ 0 → ⊥) → Err n ≡ answer_for n start
 row-refused zero start l = absurd (l refl)
 row-refused (suc n) start l = refl
 
-at-start : (n start v : ℕ) → row_at n start ≡ Row.At v → (n ≡ 0) × (v ≡ start)
+at-start : (n start v : ℕ) → answer_for n start ≡ Ok v → (n ≡ 0) × (v ≡ start)
 at-start zero start v e = (refl, cc)
 at-start (suc n) start v e = absurd (let z : ◌≡◌ {A = ℕ} 0 1 = cc in omega arith)
 
-empty-part : (n start m : ℕ) (part : List ℕ) → row_at n start ≡ Row.Refused m → [] ≡ part_or n part
+empty-part : (n start m : ℕ) (part : List ℕ) → answer_for n start ≡ Err m → [] ≡ part_or n part
 empty-part zero start m part e = absurd (let z : ◌≡◌ {A = ℕ} 0 1 = cc in omega arith)
 empty-part (suc n) start m part e = refl
 
-not-refused : (n start m : ℕ) → n ≡ 0 → row_at n start ≡ Row.Refused m → ⊥
+not-refused : (n start m : ℕ) → n ≡ 0 → answer_for n start ≡ Err m → ⊥
 not-refused zero start m z e = let d : ◌≡◌ {A = ℕ} 0 1 = cc in omega arith
 not-refused (suc n) start m z e = omega arith
 
@@ -67,18 +68,18 @@ module _ (w h y : ℕ) (other : Bool) (first : List ℕ) (place1 : Place) (secon
   number = blink_refusal w h y (length first) (length second)
 
   -- an empty part, wherever it lies
-  pub part-refused : (m : ℕ) (place : Place) → blink_answer w h y first second ≡ Row.Refused m → BlinkCall w h y other first place1 second place2 [] place
+  pub part-refused : (m : ℕ) (place : Place) → blink_answer w h y first second ≡ Err m → BlinkCall w h y other first place1 second place2 [] place
   unfolding number
   part-refused m place e = record {
     holds = empty-part number (row_start w y) m (raster_row w y (cond other second first)) e;
     lies = λ z. absurd (not-refused number (row_start w y) m z e);
   }
 
-  pub started : (v : ℕ) → blink_answer w h y first second ≡ Row.At v → (blink_refusal w h y (length first) (length second) ≡ 0) × (v ≡ row_start w y)
+  pub started : (v : ℕ) → blink_answer w h y first second ≡ Ok v → (blink_refusal w h y (length first) (length second) ≡ 0) × (v ≡ row_start w y)
   started v e = at-start (blink_refusal w h y (length first) (length second)) (row_start w y) v e
 
   -- the part of the chosen raster
-  pub part-is : (v : ℕ) (chosen : List ℕ) (place : Place) → blink_answer w h y first second ≡ Row.At v → chosen ≡ cond other second first → place ≡ cond other place2 place1
+  pub part-is : (v : ℕ) (chosen : List ℕ) (place : Place) → blink_answer w h y first second ≡ Ok v → chosen ≡ cond other second first → place ≡ cond other place2 place1
       → BlinkCall w h y other first place1 second place2 (take (v + 3 * w - v) (drop v chosen)) (place_from v place)
   part-is v chosen place e d p = record {
     holds = let s = started v e in rw (s.0, s.1, add-sub_cancel_left (row_start w y) (3 * w), d);

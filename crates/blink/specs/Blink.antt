@@ -1,8 +1,8 @@
 -- Blink row: "row y of the first or the second lent raster, as chosen, handed back as part of that raster".
-use Rattle.std.specs.Prelude.{◌≡◌, Bool, ◌||◌, not, cond, List, ℕ, zero, suc, ◌*◌, ltb, length, take, drop}
+use Rattle.std.specs.Prelude.{◌≡◌, Bool, ◌||◌, not, cond, List, ℕ, zero, suc, ◌*◌, ltb, length, take, drop, Result, Ok, Err}
+use Rattle.rules.specs.Answers.{answer_for}
 use Rattle.rules.specs.Refusals.{◌when◌, ◌or_else◌, bad_size, wrong_length, raster_length}
 use Rattle.rules.specs.Parts.{part_or, Place, place_from}
-use Rattle.blink.specs.declared.Row.{Row}
 
 -- 14. "A blink row's y is not below h." 9 looks at both rasters, also at the one not chosen.
 unfoldable pub blink_refusal : ℕ → ℕ → ℕ → ℕ → ℕ → ℕ
@@ -29,10 +29,6 @@ pub record BlinkCall (w h y : ℕ) (other : Bool) (first : List ℕ) (place1 : P
   pub holds : part ≡ blink_row w h y other first second
   pub lies : blink_refusal w h y (length first) (length second) ≡ 0 → part_place ≡ place_from (row_start w y) (cond other place2 place1)
 
-abbrev pub row_at : ℕ → ℕ → Row
-row_at zero start = Row.At start
-row_at (suc n) start = Row.Refused (suc n)
-
 -- "its companion on the same inputs gives the number"
-abbrev pub blink_answer : ℕ → ℕ → ℕ → List ℕ → List ℕ → Row
-blink_answer w h y first second = row_at (blink_refusal w h y (length first) (length second)) (row_start w y)
+abbrev pub blink_answer : ℕ → ℕ → ℕ → List ℕ → List ℕ → Result ℕ ℕ
+blink_answer w h y first second = answer_for (blink_refusal w h y (length first) (length second)) (row_start w y)

@@ -1,41 +1,38 @@
 // The blink row (document 01's term): one row of one of two rasters, for a display that shows them in turn. The offered calls.
 #![tactic(auto)]
 
+ghost use Rattle.rules.specs.RefusalNumbers.{number_in, coded};
 ghost use Rattle.std.specs.Prelude.{◌≡◌};
 ghost use Rattle.blink.specs.Blink.{blink_refusal, blink_answer, BlinkCall};
 
-use refusals::{Faults, NONE, bad_size, lowest};
+use refusals::{Faults, NONE, lowest, size_refusal};
+use rules::Refusal;
 
-// The answer of the blink row's companion: where the row begins in the chosen raster.
-#[derive(Clone, Copy)]
-pub enum Row {
-    At(usize),
-    Refused(u32),
-}
-
-fn blink_refusal(w: usize, h: usize, y: usize, first: usize, second: usize) -> u32
-    ensures { result ≡ blink_refusal w h y first second }
+#[tactic(auto, unfolding(crate::specs::Blink::blink_refusal))]
+fn blink_refusal(w: usize, h: usize, y: usize, first: usize, second: usize) -> Result<(), Refusal>
+    ensures { number_in result ≡ blink_refusal w h y first second }
 {
-    if bad_size(w, h) {
-        return 2;
-    }
+    size_refusal(w, h)?;
     let bytes = 3 * (w * h);
     lowest(Faults {
         length: (first != bytes) | (second != bytes),
-        row: !(y < h),
+        row: h <= y,
         ..NONE
     })
 }
 
-// The companion of the blink row: where it begins, or why it is refused.
-pub fn blink_start(w: usize, h: usize, y: usize, first: &[u8], second: &[u8]) -> Row
-    ensures { result ≡ blink_answer w h y first.now second.now }
+// The companion of the blink row: where it begins in the chosen raster, or why it is refused.
+pub fn blink_start(
+    w: usize,
+    h: usize,
+    y: usize,
+    first: &[u8],
+    second: &[u8],
+) -> Result<usize, Refusal>
+    ensures { coded result ≡ blink_answer w h y first.now second.now }
 {
-    let n = blink_refusal(w, h, y, first.len(), second.len());
-    if n != 0 {
-        return Row::Refused(n);
-    }
-    Row::At(y * (3 * w))
+    blink_refusal(w, h, y, first.len(), second.len())?;
+    Ok(y * (3 * w))
 }
 
 // Row y of the second raster where `other` is set, else of the first; an empty part when refused.
@@ -49,7 +46,7 @@ pub fn blink_row<'a>(
 ) -> &'a [u8]
     ensures { BlinkCall w h y other first.now first.entry.ref_ptr second.now second.entry.ref_ptr result.now result.ref_ptr }
 {
-    let Row::At(from) = blink_start(w, h, y, first, second) else {
+    let Ok(from) = blink_start(w, h, y, first, second) else {
         return &first[..0];
     };
     let to = from + 3 * w;

@@ -1,2 +1,2 @@
--- Laws of the choice among the nine.
-pub mod LeadingLaws
+-- Laws of the nine candidates.
+pub mod StepLaws

@@ -9,14 +9,38 @@ ghost use Rattle.candidates.specs.Leading.{counts_by, Leading};
 
 use rules::{Offset, Order};
 
-// An order of the nine, by the places of the candidates in Ward's.
-pub fn places(order: Order) -> [usize; 9]
-    ensures order { arranged result ≡ order_of order }
-    ensures nine { Arrangement result }
+// An order of the nine, the preferred candidate first: their places in Ward's order, each once. A rank
+// is a place in it.
+#[derive(Clone, Copy)]
+pub struct Ranking {
+    pub places: [usize; 9],
+    pub ghost each_once: { Arrangement places },
+}
+
+// The order of the nine that a setting names.
+pub fn places(order: Order) -> Ranking
+    ensures { arranged result.places ≡ order_of order }
 {
-    match order {
+    let places = match order {
         Order::LeastMove => [4, 1, 7, 3, 5, 0, 2, 6, 8],
         Order::Ward => [0, 1, 2, 3, 4, 5, 6, 7, 8],
+    };
+    Ranking { places }
+}
+
+impl Ranking {
+    // The rank of the first least of nine counts, which stand from place `at` on in Ward's order.
+    pub fn first_least(&self, counts: &[u32], at: usize) -> usize
+        requires { at + 9 ≤ length counts.now }
+        ensures { Leading (counts_by counts.now at self.now.places) 9 result }
+    {
+        let mut best = 0;
+        for k in 1..9 {
+            if counts[at + self.places[k]] < counts[at + self.places[best]] {
+                best = k;
+            }
+        }
+        best
     }
 }
 
@@ -35,13 +59,11 @@ pub fn doubled(m: Offset) -> Offset
 fn step(i: usize) -> i32
     ensures { result ≡ step_of i }
 {
-    if i == 0 {
-        return -1;
+    match i {
+        0 => -1,
+        1 => 0,
+        _ => 1,
     }
-    if i == 1 {
-        return 0;
-    }
-    1
 }
 
 // Candidate k of the nine.
@@ -56,22 +78,4 @@ pub fn candidate(centre: Offset, k: usize) -> Offset
         dx: centre.dx + i,
         dy: centre.dy + j,
     }
-}
-
-// The rank of the first least of nine counts, which stand from place `at` on in Ward's order. `order`
-// has the candidates' places there, the preferred one first; a rank is a place in `order`.
-pub fn first_least(counts: &[u32], at: usize, order: &[usize; 9]) -> usize
-    requires nine { at + 9 ≤ length counts.now }
-    requires order { Arrangement order.now }
-    ensures { Leading (counts_by counts.now at order.now) 9 result }
-{
-    let mut best: usize = 0;
-    let mut k: usize = 1;
-    while k < 9 {
-        if counts[at + order[k]] < counts[at + order[best]] {
-            best = k;
-        }
-        k += 1;
-    }
-    best
 }

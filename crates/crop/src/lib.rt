@@ -55,16 +55,8 @@ pub fn convert_crop(raster: &[u8], w: usize, crop: Crop, grey: &mut [u8], to: us
     requires room { to + crop.w * crop.h ≤ length grey.old }
     ensures { FrameAt to crop.w (part crop (grey_frame w raster.now)) grey.old crop.h grey.new }
 {
-    let Crop {
-        left,
-        top,
-        w: columns,
-        h: lines,
-    } = crop;
-    let mut y: usize = 0;
-    while y < lines {
-        let from = 3 * ((top + y) * w + left);
-        convert(&raster[from..], columns, grey, to + y * columns);
-        y += 1;
+    for y in 0..crop.h {
+        let from = 3 * ((crop.top + y) * w + crop.left);
+        convert(&raster[from..], crop.w, grey, to + y * crop.w);
     }
 }

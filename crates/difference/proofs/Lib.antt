@@ -1,2 +1,1 @@
 -- Laws of the difference call's answer.
-pub mod TallyAnswerLaws

@@ -5,13 +5,15 @@ pub mod edges;
 pub mod interior;
 pub mod row_differences;
 
+ghost use Rattle.rules.specs.RefusalNumbers.{coded};
 ghost use Rattle.std.specs.Prelude.{◌≡◌};
 ghost use Rattle.rules.specs.Calls.{difference_answer};
 
+use differing::FramePair;
 use frame_refusals::difference_refusal;
-use popcount::table::bit_counts;
+use popcount::table::BitCounts;
 use row_differences::tally_frame;
-use rules::Tallied;
+use rules::{Refusal, Tally};
 use tallies::split;
 
 // Both, of two frames of w by h pixels, at any two signed numbers.
@@ -24,23 +26,24 @@ pub fn difference(
     exclusion1: &[u64],
     threshold2: &[u64],
     exclusion2: &[u64],
-) -> Tallied
-    ensures { result ≡ difference_answer w h dx dy threshold1.now exclusion1.now threshold2.now exclusion2.now }
+) -> Result<Tally, Refusal>
+    ensures { coded result ≡ difference_answer w h dx dy threshold1.now exclusion1.now threshold2.now exclusion2.now }
 {
-    let number = difference_refusal(
+    difference_refusal(
         w,
         h,
         threshold1.len(),
         exclusion1.len(),
         threshold2.len(),
         exclusion2.len(),
-    );
-    if number != 0 {
-        return Tallied::Refused(number);
-    }
-    let table = bit_counts();
-    let both = tally_frame(
-        w, h, dx, dy, threshold1, exclusion1, threshold2, exclusion2, &table,
-    );
-    Tallied::Tally(split(both))
+    )?;
+    let pair = FramePair {
+        threshold1,
+        exclusion1,
+        threshold2,
+        exclusion2,
+    };
+    let table = BitCounts::new();
+    let both = tally_frame(w, h, dx, dy, &pair, &table);
+    Ok(split(both))
 }

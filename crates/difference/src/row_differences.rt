@@ -5,56 +5,39 @@ ghost use Rattle.std.specs.Prelude.{◌≡◌, ◌+◌, ◌*◌, ◌<◌, ◌≤
 ghost use Rattle.rules.specs.Limits.{max_side, word_bits};
 ghost use Rattle.rules.specs.Sums.{sum};
 ghost use Rattle.rules.specs.Differences.{difference, compared};
-ghost use Rattle.rules.specs.Calls.{planes_of};
-ghost use Rattle.words.specs.Moves.{Moves};
-ghost use Rattle.popcount.specs.Table.{CountsBits};
 ghost use Rattle.tallies.specs.Tallies.{tally};
-ghost use Rattle.differing.specs.RowDifferences.{moved_tally, line_tally, RowsIn, FramesIn};
+ghost use Rattle.differing.specs.RowDifferences.{moved_tally, pair_line, first_planes, second_planes, RowsIn, FramesIn};
 
 use crate::edges::{left_edge, right_edge};
 use crate::interior::interior;
+use differing::FramePair;
+use popcount::table::BitCounts;
 use words::moves::{Move, move_by};
 use words::{BIAS, biased};
 
 // The row at `base` against the moved row at `from`.
-fn row_tally(
-    t1: &[u64],
-    e1: &[u64],
-    t2: &[u64],
-    e2: &[u64],
-    base: usize,
-    from: usize,
-    m: Move,
-    table: &[u8; 256],
-) -> u64
-    requires moves { Moves m }
-    requires rows { RowsIn t1.now e1.now t2.now e2.now base from m.w }
-    requires table { CountsBits table.now }
-    ensures { result ≡ sum m.w (moved_tally t1.now e1.now t2.now e2.now base from m) }
+fn row_tally(pair: &FramePair<'_>, base: usize, from: usize, m: Move, table: &BitCounts) -> u64
+    requires rows { RowsIn pair.now base from m.w }
+    ensures { result ≡ sum m.w (moved_tally pair.now base from m) }
 {
-    left_edge(t1, e1, t2, e2, base, from, m, table)
-        + interior(t1, e1, t2, e2, base, from, m, table)
-        + right_edge(t1, e1, t2, e2, base, from, m, table)
+    left_edge(pair, base, from, m, table)
+        + interior(pair, base, from, m, table)
+        + right_edge(pair, base, from, m, table)
 }
 
 // Row y of the frame. Its partner row is `up` rows back, counted from the bias; a row whose partner
 // lies outside the frame is not compared.
 fn line_tally(
-    t1: &[u64],
-    e1: &[u64],
-    t2: &[u64],
-    e2: &[u64],
+    pair: &FramePair<'_>,
     h: usize,
     y: usize,
     up: usize,
     m: Move,
-    table: &[u8; 256],
+    table: &BitCounts,
 ) -> u64
-    requires moves { Moves m }
     requires here { (y < h) × (h ≤ max_side) }
-    requires frames { FramesIn t1.now e1.now t2.now e2.now m.w h }
-    requires table { CountsBits table.now }
-    ensures { result ≡ line_tally t1.now e1.now t2.now e2.now m.w h (m.q * word_bits + m.r) up y }
+    requires frames { FramesIn pair.now m.w h }
+    ensures { result ≡ pair_line pair.now m.w h (m.q * word_bits + m.r) up y }
 {
     let at = y + BIAS;
     if at < up {
@@ -64,7 +47,7 @@ fn line_tally(
     if h <= z {
         return 0;
     }
-    row_tally(t1, e1, t2, e2, y * m.n, z * m.n, m, table)
+    row_tally(pair, y * m.n, z * m.n, m, table)
 }
 
 // Of two frames of w by h pixels. The table of counts is lent, so that a caller that counts often takes
@@ -74,26 +57,20 @@ pub fn tally_frame(
     h: usize,
     dx: i32,
     dy: i32,
-    t1: &[u64],
-    e1: &[u64],
-    t2: &[u64],
-    e2: &[u64],
-    table: &[u8; 256],
+    pair: &FramePair<'_>,
+    table: &BitCounts,
 ) -> u64
     requires width { w ≤ max_side }
     requires height { h ≤ max_side }
-    requires frames { FramesIn t1.now e1.now t2.now e2.now w h }
-    requires table { CountsBits table.now }
-    ensures { result ≡ tally (difference w h dx dy (planes_of w h t1.now e1.now) (planes_of w h t2.now e2.now))
-        (compared w h dx dy (planes_of w h t1.now e1.now) (planes_of w h t2.now e2.now)) }
+    requires frames { FramesIn pair.now w h }
+    ensures { result ≡ tally (difference w h dx dy (first_planes w h pair.now) (second_planes w h pair.now))
+        (compared w h dx dy (first_planes w h pair.now) (second_planes w h pair.now)) }
 {
     let m = move_by(w, biased(dx));
     let up = biased(dy);
-    let mut both: u64 = 0;
-    let mut y: usize = 0;
-    while y < h {
-        both += line_tally(t1, e1, t2, e2, h, y, up, m, table);
-        y += 1;
+    let mut both = 0;
+    for y in 0..h {
+        both += line_tally(pair, h, y, up, m, table);
     }
     both
 }

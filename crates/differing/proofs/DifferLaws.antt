@@ -6,12 +6,12 @@ use mathlib.Core.List.{List}
 use Prim.Native.Nat.{ℕ, ◌+◌, ◌*◌, ◌-◌, ◌/◌, ◌≤◌, ◌<◌, min}
 use native.Mathlib.Omega.{arith}
 use lib.Dec.{ltb, leb, eqb}
-use lib.ListN.{length, get_or}
+use lib.ListN.{get_or}
 use lib.IntN.{ℤ, pos, negsuc, ◌-ℤ◌}
 use lib.Bits.{bit_and, bit_xor, differ}
 use mir.Syntax.{w32}
 use mir.Val.{SFits}
-use Rattle.rules.specs.Sums.{gate, one_if, sum, row_sum, sum_pixels}
+use Rattle.rules.specs.Sums.{gate, sum, row_sum, sum_pixels}
 use Rattle.rules.specs.Bitmaps.{bit, bit_at, row_words}
 use Rattle.rules.specs.Frames.{Frame}
 use Rattle.rules.specs.Planes.{within}
@@ -26,10 +26,11 @@ use Rattle.words.proofs.MoveLaws.{gate-lt, gate-ge, row-bit, row-whole, row-past
 use Rattle.words.proofs.JoinLaws.{MovedIn, raw_word, raw-moved, joined-moved, whole-moved}
 use Rattle.popcount.specs.RowCounts.{Adds}
 use Rattle.tallies.specs.Tallies.{tally, both, WordsOf}
-use Rattle.differing.specs.RowDifferences.{disagree, both_kept, row_differ, row_kept, row_tally, line_tally, moved_tally, RowsIn, FramesIn}
+use Rattle.differing.specs.declared.FramePair.{FramePair}
+use Rattle.differing.specs.RowDifferences.{disagree, both_kept, row_differ, row_kept, row_tally, line_tally, moved_tally}
 use Rattle.popcount.proofs.AdderLaws.{Bit, off, on, bit-case}
 use Rattle.differing.proofs.KeptLaws.{kept_bit, masked-kept, kept-is, row-case, moved-case, kept-first, kept-partner, kept_word, kept-right}
-use Rattle.popcount.proofs.RowLaws.{word_none, adds-more, row-sum, bit_at-in, row_room}
+use Rattle.popcount.proofs.RowLaws.{word_none, adds-more, row-sum, bit_at-in}
 use Rattle.tallies.proofs.TallyLaws.{pixels-both, adds-both, word-both, both-le, tally-le}
 
 -- ---- the four bits of a pixel
@@ -140,7 +141,7 @@ module _ (t1 e1 t2 e2 : List ℕ) (base from w d k kept : ℕ) (a : WordOf (kept
           let m = kept-partner e1 e2 base from w d x (sym e) in
           ap₂ (λ (p q : ℕ). min (differ p q) 1) (sym (row-bit t1 base w k i b l)) (c i l m.0 m.1)
 
-  pub differ-words : (u2 : ℕ) → MovedIn t2 from w d k u2
+  differ-words : (u2 : ℕ) → MovedIn t2 from w d k u2
       → WordsOf (row_differ t1 e1 t2 e2 base from w d) (row_kept e1 e2 base from w d) k (record { differing = bit_and (bit_xor (get_or t1 (base + k) 0) u2) kept; kept = kept })
   differ-words u2 c = (differ-word u2 c, kept-bits)
 
@@ -205,8 +206,8 @@ row_kept-lt e1 e2 base from w d x = both-lt (row_bit e1 base w x) (moved_bit e2 
 row_tally-le : (t1 e1 t2 e2 : List ℕ) (base from w d x : ℕ) → row_tally t1 e1 t2 e2 base from w d x ≤ 4294967297
 row_tally-le t1 e1 t2 e2 base from w d = both-le (row_differ t1 e1 t2 e2 base from w d) (row_kept e1 e2 base from w d) (row_differ-lt t1 e1 t2 e2 base from w d) (row_kept-lt e1 e2 base from w d)
 
-pub moved_tally-le : (t1 e1 t2 e2 : List ℕ) (base from : ℕ) (m : Move) (x : ℕ) → moved_tally t1 e1 t2 e2 base from m x ≤ 4294967297
-moved_tally-le t1 e1 t2 e2 base from m x = row_tally-le t1 e1 t2 e2 base from m.w (m.q * 64 + m.r) x
+pub moved_tally-le : (p : FramePair) (base from : ℕ) (m : Move) (x : ℕ) → moved_tally p base from m x ≤ 4294967297
+moved_tally-le p base from m x = row_tally-le p.threshold1.now p.exclusion1.now p.threshold2.now p.exclusion2.now base from m.w (m.q * 64 + m.r) x
 
 -- pixel (x, y) of the first frame's bitmaps and its partner in the second's
 abbrev planes_tally : Planes → Planes → ℕ → ℕ → ℕ → ℕ → ℕ
@@ -352,16 +353,6 @@ pub row-parts : (f : ℕ → ℕ) (w n first end a b c : ℕ) → n ≡ row_word
     → Adds f 0 first a → Adds f first end b → Adds f end n c → a + b + c ≡ sum w f
 row-parts f w n first end a b c e z p q r =
     row-sum f w (a + b + c) z (rw e at (adds-more f 0 end n (a + b) c (adds-more f 0 first end a b p q) r))
-
--- two rows of the frames
-pub rows_in : (t1 e1 t2 e2 : List ℕ) (w h n y z : ℕ) → n ≡ row_words w → FramesIn t1 e1 t2 e2 w h → y < h → z < h
-    → RowsIn t1 e1 t2 e2 (y * n) (z * n) w
-rows_in t1 e1 t2 e2 w h n y z e f k l = record {
-  threshold1 = row_room n w h y (length t1) e f.threshold1 k;
-  exclusion1 = row_room n w h y (length e1) e f.exclusion1 k;
-  threshold2 = row_room n w h z (length t2) e f.threshold2 l;
-  exclusion2 = row_room n w h z (length e2) e f.exclusion2 l;
-}
 
 -- the three ways of a row
 module _ (t1 e1 t2 e2 : List ℕ) (w h d up y : ℕ) where

@@ -1,4 +1,5 @@
 -- Laws of the decision: which number is printed, or else the alignment.
+use Rattle.std.specs.Prelude.{Ok, Err}
 use mathlib.Core.Path.{◌≡◌, refl, sym, ap, ◌∙◌}
 use mathlib.Core.Bool.{Bool, true, false, ◌&&◌, cond, true≢false}
 use mathlib.Core.List.{List, [], ◌++◌}
@@ -8,9 +9,8 @@ use native.Mathlib.Omega.{arith}
 use lib.Dec.{eqb}
 use lib.ListN.{length, drop}
 use Rattle.rules.specs.declared.Offset.{Offset}
-use Rattle.rules.specs.declared.Paired.{Paired}
 use Rattle.rules.specs.declared.Exclusion.{Exclusion}
-use Rattle.rules.specs.Answers.{paired, buffer_after}
+use Rattle.rules.specs.Answers.{buffer_after, answer_for}
 use Rattle.rules.specs.Levels.{by_tolerance, Aligned}
 use Rattle.rules.specs.Refusals.{◌or_else◌}
 use Rattle.rules.specs.Calls.{pair_result}
@@ -18,9 +18,8 @@ use Rattle.rules.specs.Accepted.{PairOk}
 use Rattle.rules.proofs.AlignmentLaws.{pair_ok}
 use Rattle.rules.proofs.LevelLaws.{counts-length}
 use Rattle.ppm_read.specs.declared.Size.{Size}
-use Rattle.ppm_read.specs.declared.SizeRead.{SizeRead}
 use Rattle.p6_header.specs.P6Header.{header_of}
-use Rattle.ppm_read.specs.P6.{size_in, p6_refusal, raster_of, size_read, size_answer}
+use Rattle.ppm_read.specs.P6.{size_in, p6_refusal, raster_of, size_answer}
 use Rattle.output_lines.specs.Lines.{refused_text, offset_text, levels_text, aligned_text}
 use Rattle.files_text.specs.FilesText.{counts_lent, grey_lent, words_lent, second_raster, ward_result, bracket_refusal, answer_text, files_text}
 use Rattle.files_text.specs.PairTexts.{lent_refusal, pair_text, raster_of_size}
@@ -30,22 +29,22 @@ pub not-zero : (n : ℕ) → eqb n 0 ≡ false → n ≡ 0 → ⊥
 not-zero n e z = true≢false (sym (ap (λ (k : ℕ). eqb k 0) z) ∙ e)
 
 -- A call that refuses: its number is printed.
-pair-refused : (r n : ℕ) (m : Offset) (text : List ℕ) → paired r m ≡ Paired.Refused n → answer_text r text ≡ refused_text n
+pair-refused : (r n : ℕ) (m : Offset) (text : List ℕ) → answer_for r m ≡ Err n → answer_text r text ≡ refused_text n
 unfolding answer_text
 pair-refused zero n m text e = let z : ◌≡◌ {A = ℕ} 0 1 = cc in absurd (omega arith)
 pair-refused (suc r) n m text e = let d : suc r ≡ n = cc in rw d
 
-read-refused : (r n : ℕ) (size : Size) (rest : ℕ) (text : List ℕ) → size_read r size ≡ SizeRead.Refused n → answer_text (r or_else rest) text ≡ refused_text n
+read-refused : (r n : ℕ) (size : Size) (rest : ℕ) (text : List ℕ) → answer_for r size ≡ Err n → answer_text (r or_else rest) text ≡ refused_text n
 unfolding answer_text
 read-refused zero n size rest text e = let z : ◌≡◌ {A = ℕ} 0 1 = cc in absurd (omega arith)
 read-refused (suc r) n size rest text e = let d : suc r ≡ n = cc in rw d
 
 -- A call that accepts: its number is 0.
-pair-moved : (r : ℕ) (m z : Offset) → paired r m ≡ Paired.Moved z → (r ≡ 0) × (m ≡ z)
+pair-moved : (r : ℕ) (m z : Offset) → answer_for r m ≡ Ok z → (r ≡ 0) × (m ≡ z)
 pair-moved zero m z e = (refl, cc)
 pair-moved (suc r) m z e = let z : ◌≡◌ {A = ℕ} 0 1 = cc in absurd (omega arith)
 
-read-frame : (r : ℕ) (size z : Size) → size_read r size ≡ SizeRead.Frame z → (r ≡ 0) × (size ≡ z)
+read-frame : (r : ℕ) (size z : Size) → answer_for r size ≡ Ok z → (r ≡ 0) × (size ≡ z)
 read-frame zero size z e = (refl, cc)
 read-frame (suc r) size z e = let z : ◌≡◌ {A = ℕ} 0 1 = cc in absurd (omega arith)
 
@@ -65,12 +64,12 @@ module _ (size : Size) (s tolerance percentile : ℕ) (first second : List ℕ) 
   abbrev pub result : Aligned
   result = ward_result size s tolerance percentile first second
 
-  pub pair-refused-text : (n : ℕ) → paired number result.offset ≡ Paired.Refused n → pair_text size s tolerance percentile first second ≡ refused_text n
+  pub pair-refused-text : (n : ℕ) → answer_for number result.offset ≡ Err n → pair_text size s tolerance percentile first second ≡ refused_text n
   unfolding pair_text
   pair-refused-text n e = pair-refused number n result.offset (aligned_text s result) e
 
   -- the counts stand at the beginning of their buffer
-  module _ (m : Offset) (e : paired number result.offset ≡ Paired.Moved m) where
+  module _ (m : Offset) (e : answer_for number result.offset ≡ Ok m) where
     accepted : (number ≡ 0) × (result.offset ≡ m)
     accepted = pair-moved number result.offset m e
 
@@ -88,19 +87,19 @@ module _ (size : Size) (s tolerance percentile : ℕ) (first second : List ℕ) 
 
 -- The two files, one after the other.
 module _ (s tolerance percentile : ℕ) (first second : List ℕ) where
-  pub first-refused : (n : ℕ) → size_answer first ≡ SizeRead.Refused n → files_text s tolerance percentile first second ≡ refused_text n
+  pub first-refused : (n : ℕ) → size_answer first ≡ Err n → files_text s tolerance percentile first second ≡ refused_text n
   unfolding files_text bracket_refusal
   first-refused n e = read-refused (p6_refusal first) n (size_in (header_of first)) _ _ e
 
-  module _ (one : Size) (e : size_answer first ≡ SizeRead.Frame one) where
+  module _ (one : Size) (e : size_answer first ≡ Ok one) where
     good1 : (p6_refusal first ≡ 0) × (size_in (header_of first) ≡ one)
     good1 = read-frame (p6_refusal first) (size_in (header_of first)) one e
 
-    pub second-refused : (n : ℕ) → size_answer second ≡ SizeRead.Refused n → files_text s tolerance percentile first second ≡ refused_text n
+    pub second-refused : (n : ℕ) → size_answer second ≡ Err n → files_text s tolerance percentile first second ≡ refused_text n
     unfolding files_text bracket_refusal
     second-refused n d = rw good1.0 (read-refused (p6_refusal second) n (size_in (header_of second)) _ _ d)
 
-    module _ (two : Size) (f : size_answer second ≡ SizeRead.Frame two) where
+    module _ (two : Size) (f : size_answer second ≡ Ok two) where
       good2 : (p6_refusal second ≡ 0) × (size_in (header_of second) ≡ two)
       good2 = read-frame (p6_refusal second) (size_in (header_of second)) two f
 

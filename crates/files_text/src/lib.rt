@@ -6,8 +6,7 @@ ghost use Rattle.files_text.specs.FilesText.{files_text, files_align};
 ghost use Rattle.files_text.specs.PairTexts.{pair_text, pair_aligns, raster_of_size, Printed};
 
 use output_lines::{put_aligned, put_refused};
-use ppm_read::{Size, SizeRead, p6_raster, p6_size};
-use rules::Paired;
+use ppm_read::{Size, p6_raster, p6_size};
 
 // The memory that is lent: work memory for the pair, and room for the longest output, of 949 bytes.
 pub const GREY_LENT: usize = 65536;
@@ -65,8 +64,8 @@ fn put_pair(
         words,
     );
     match answer {
-        Paired::Refused(n) => put_refused(out, n),
-        Paired::Moved(offset) => put_aligned(out, s, offset, &counts),
+        Err(refusal) => put_refused(out, u32::from(refusal)),
+        Ok(offset) => put_aligned(out, s, offset, &counts),
     }
 }
 
@@ -88,10 +87,10 @@ pub fn put_files(
     let held1 = p6_size(first);
     let held2 = p6_size(second);
     match held1 {
-        SizeRead::Refused(n) => put_refused(out, n),
-        SizeRead::Frame(one) => match held2 {
-            SizeRead::Refused(n) => put_refused(out, n),
-            SizeRead::Frame(two) => put_pair(
+        Err(refusal) => put_refused(out, u32::from(refusal)),
+        Ok(one) => match held2 {
+            Err(refusal) => put_refused(out, u32::from(refusal)),
+            Ok(two) => put_pair(
                 one,
                 s,
                 tolerance,

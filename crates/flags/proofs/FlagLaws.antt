@@ -25,6 +25,9 @@ pub outside-first : (lo hi v : ℕ) → lo ≤ hi → hi < 256 → v < 256 → (
 unfolding outside_bit
 outside-first lo hi v k l b p = simp (le-ltb v lo (omega arith), le-ltb hi v (omega arith))
 
+-- what the test of a single value needs
+pub ruleset outside_tests = (outside-past, outside-first)
+
 one-if-lt : (t : Bool) → one_if t < 2
 one-if-lt true = omega arith
 one-if-lt false = omega arith

@@ -14,6 +14,7 @@ pub const WEIGHTS: [u8; 64] = [
 
 // The weight where a grey value lies outside lo..hi, both included, else 0. One test for both ends:
 // counted on from lo, round at 256, the values of the interval come first.
+#[tactic(auto, using(crate::proofs::FlagLaws::outside_tests))]
 fn outside_weight(g: u8, lo: u8, hi: u8, weight: u8) -> u8
     requires { lo ≤ hi }
     ensures { result ≡ outside_bit lo hi g * weight }
@@ -31,10 +32,8 @@ pub fn flags_of(grey: &[u8], at: usize, n: usize, lo: u8, hi: u8, weights: &[u8;
     ensures { Weighed (flag_at lo hi grey.now at n) result }
 {
     let mut flags = [0u8; 64];
-    let mut i: usize = 0;
-    while i < n {
+    for i in 0..n {
         flags[i] = outside_weight(grey[at + i], lo, hi, weights[i]);
-        i += 1;
     }
     flags
 }

@@ -4,10 +4,9 @@ use mathlib.Core.List.{List, [], ◌∷◌}
 use Prim.Native.Nat.{ℕ, zero, suc, ◌+◌, ◌-◌, ◌^◌, ◌≤◌, ◌<◌}
 use native.Mathlib.Omega.{arith}
 use lib.IntN.{ℤ}
-use lib.ListN.{length}
+use lib.ListN.{length, get_or}
 use lib.Pow.{pow_mono}
 use Rattle.rules.specs.declared.Offset.{Offset}
-use Rattle.rules.specs.declared.Exclusion.{Exclusion}
 use Rattle.rules.specs.declared.Setup.{Setup}
 use Rattle.rules.specs.Limits.{max_offset}
 use Rattle.rules.specs.Frames.{written_over}
@@ -19,14 +18,8 @@ use Rattle.rules.proofs.OffsetLaws.{near-pair, near-arranged, near-more}
 use Rattle.crop.specs.declared.Quadrant.{Quadrant}
 use Rattle.offsets.specs.PairOffsets.{pair_offset, with_offset, SmallPairs}
 use Rattle.offsets.proofs.PairOffsetLaws.{put_next, written-pair}
-use Rattle.quadrant_refusals.specs.QuadrantRefusals.{QuadrantsOk}
 use Rattle.quadrant.specs.QuadrantPairs.{quadrant_setup, quadrant_raster, quadrant_offset}
 use Rattle.four_quadrants.specs.FourOffsets.{four_offsets, coordinates, quadrant_at}
-
--- the memory of one quadrant serves the next
-pub same_memory : (w h s : ℕ) (exclusion : Exclusion) (percentile first second grey grey' words words' : ℕ) → grey' ≡ grey → words' ≡ words
-    → QuadrantsOk w h s exclusion percentile first second grey words → QuadrantsOk w h s exclusion percentile first second grey' words'
-same_memory w h s exclusion percentile first second grey grey' words words' e f k = rw (e, f) k
 
 -- a quadrant's offset is at most as large as a pair's can be
 pub quadrant-near : (places : List ℕ) (S : Setup) (first second : List ℕ) (q : Quadrant) (m : Offset) → S.s ≤ 8
@@ -42,11 +35,14 @@ quadrant-near places S first second q m few e =
 abbrev pub offset_in : List Offset → Setup → List ℕ → List ℕ → ℕ → Offset
 offset_in order S first second k = quadrant_offset order S first second (quadrant_at k)
 
-pub last-quadrant : (k : ℕ) → (k ≡ 0 → ⊥) → (k ≡ 1 → ⊥) → (k ≡ 2 → ⊥) → Quadrant.LowerRight ≡ quadrant_at k
-last-quadrant zero a b c = absurd (a refl)
-last-quadrant (suc zero) a b c = absurd (b refl)
-last-quadrant (suc (suc zero)) a b c = absurd (c refl)
-last-quadrant (suc (suc (suc k))) a b c = refl
+-- the four in their array
+pub quadrant-in : (k : ℕ) (d : Quadrant) → k < 4
+    → get_or (Quadrant.UpperLeft ∷ Quadrant.UpperRight ∷ Quadrant.LowerLeft ∷ Quadrant.LowerRight ∷ []) k d ≡ quadrant_at k
+quadrant-in zero d l = refl
+quadrant-in (suc zero) d l = refl
+quadrant-in (suc (suc zero)) d l = refl
+quadrant-in (suc (suc (suc zero))) d l = refl
+quadrant-in (suc (suc (suc (suc k)))) d l = absurd (omega arith)
 
 -- nothing written, and all four
 pub none_written : (order : List Offset) (S : Setup) (first second : List ℕ) (lent : List ℤ) → lent ≡ written_over (offset_list 0 (offset_in order S first second)) lent

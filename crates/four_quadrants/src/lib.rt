@@ -3,43 +3,28 @@
 
 ghost use Rattle.std.specs.Prelude.{◌≡◌, [], ◌∷◌, ◌+◌, ◌*◌, ◌≤◌, length};
 ghost use Rattle.rules.specs.Frames.{written_over};
-ghost use Rattle.rules.specs.Levels.{Arrangement, arranged};
+ghost use Rattle.rules.specs.Levels.{arranged};
 ghost use Rattle.offsets.specs.PairOffsets.{pair_offset, SmallPairs};
 ghost use Rattle.rotation.specs.Turns.{turned};
 ghost use Rattle.quadrant_refusals.specs.QuadrantRefusals.{numbers_needed, QuadrantsOk};
-ghost use Rattle.four_quadrants.specs.FourOffsets.{four_offsets, coordinates, quadrant_at};
+ghost use Rattle.four_quadrants.specs.FourOffsets.{four_offsets, coordinates};
 
+use candidates::Ranking;
 use crop::Quadrant;
 use offsets::put_offset;
 use quadrant::align_quadrant;
 use rotation::turned;
 use rules::{Offset, Setup};
 
-// The quadrant whose offset is number k of the four.
-fn quadrant_at(k: usize) -> Quadrant
-    ensures { result ≡ quadrant_at k }
-{
-    if k == 0 {
-        return Quadrant::UpperLeft;
-    }
-    if k == 1 {
-        return Quadrant::UpperRight;
-    }
-    if k == 2 {
-        return Quadrant::LowerLeft;
-    }
-    Quadrant::LowerRight
-}
-
 // Offset k of a list.
 fn offset_at(offsets: &[i32], k: usize) -> Offset
     requires { 2 * k + 2 ≤ length offsets.now }
     ensures { result ≡ pair_offset offsets.now k }
 {
-    let at = 2 * k;
-    let dx = offsets[at];
-    let dy = offsets[at + 1];
-    Offset { dx, dy }
+    Offset {
+        dx: offsets[2 * k],
+        dy: offsets[2 * k + 1],
+    }
 }
 
 // Whether two of the four offsets of a list differ.
@@ -68,21 +53,23 @@ fn align_each(
     offsets: &mut [i32],
     grey: &mut [u8],
     words: &mut [u64],
-    order: &[usize; 9],
+    order: &Ranking,
 )
     requires accepted { QuadrantsOk setup.w setup.h setup.s setup.exclusion setup.percentile
         (length first.now) (length second.now) (length grey.old) (length words.old) }
     requires room { numbers_needed ≤ length offsets.old }
-    requires order { Arrangement order.now }
     ensures { offsets.new
-        ≡ written_over (coordinates (four_offsets (arranged order.now) setup first.now second.now)) offsets.old }
+        ≡ written_over (coordinates (four_offsets (arranged order.now.places) setup first.now second.now)) offsets.old }
 {
-    let mut k: usize = 0;
-    while k < 4 {
-        let quadrant = quadrant_at(k);
-        let m = align_quadrant(setup, quadrant, first, second, grey, words, order);
+    let quadrants = [
+        Quadrant::UpperLeft,
+        Quadrant::UpperRight,
+        Quadrant::LowerLeft,
+        Quadrant::LowerRight,
+    ];
+    for (k, quadrant) in quadrants.iter().enumerate() {
+        let m = align_quadrant(setup, *quadrant, first, second, grey, words, order);
         put_offset(offsets, k, m);
-        k += 1;
     }
 }
 
@@ -94,15 +81,14 @@ pub fn align_quadrants(
     offsets: &mut [i32],
     grey: &mut [u8],
     words: &mut [u64],
-    order: &[usize; 9],
+    order: &Ranking,
 ) -> bool
     requires accepted { QuadrantsOk setup.w setup.h setup.s setup.exclusion setup.percentile
         (length first.now) (length second.now) (length grey.old) (length words.old) }
     requires room { numbers_needed ≤ length offsets.old }
-    requires order { Arrangement order.now }
-    ensures turned { result ≡ turned (four_offsets (arranged order.now) setup first.now second.now) }
+    ensures turned { result ≡ turned (four_offsets (arranged order.now.places) setup first.now second.now) }
     ensures offsets { offsets.new
-        ≡ written_over (coordinates (four_offsets (arranged order.now) setup first.now second.now)) offsets.old }
+        ≡ written_over (coordinates (four_offsets (arranged order.now.places) setup first.now second.now)) offsets.old }
 {
     align_each(setup, first, second, offsets, grey, words, order);
     four_turned(offsets)

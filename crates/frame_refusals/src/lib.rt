@@ -1,18 +1,19 @@
-// The refusal number of each call on frames and bitmaps.
+// When each call on frames and bitmaps is refused.
 #![tactic(auto)]
 
 ghost use Rattle.std.specs.Prelude.{◌≡◌};
+ghost use Rattle.rules.specs.RefusalNumbers.{number_in};
 ghost use Rattle.rules.specs.Refusals.{grey_refusal, halve_refusal, threshold_refusal, bitmaps_refusal, shift_refusal, total_refusal, difference_refusal};
 
-use refusals::{Faults, NONE, bad_percentile, bad_size, lowest, tolerance_refusal};
+use refusals::{Faults, NONE, bad_percentile, lowest, size_refusal, tolerance_refusal};
+use rules::Refusal;
 use words::row_words;
 
-pub fn grey_refusal(w: usize, h: usize, raster: usize, grey: usize) -> u32
-    ensures { result ≡ grey_refusal w h raster grey }
+#[tactic(auto, unfolding(rules::specs::Refusals::grey_refusal))]
+pub fn grey_refusal(w: usize, h: usize, raster: usize, grey: usize) -> Result<(), Refusal>
+    ensures { number_in result ≡ grey_refusal w h raster grey }
 {
-    if bad_size(w, h) {
-        return 2;
-    }
+    size_refusal(w, h)?;
     let area = w * h;
     let bytes = 3 * area;
     lowest(Faults {
@@ -22,28 +23,26 @@ pub fn grey_refusal(w: usize, h: usize, raster: usize, grey: usize) -> u32
     })
 }
 
-pub fn halve_refusal(w: usize, h: usize, grey: usize, out: usize) -> u32
-    ensures { result ≡ halve_refusal w h grey out }
+#[tactic(auto, unfolding(rules::specs::Refusals::halve_refusal, rules::specs::Refusals::unhalvable))]
+pub fn halve_refusal(w: usize, h: usize, grey: usize, out: usize) -> Result<(), Refusal>
+    ensures { number_in result ≡ halve_refusal w h grey out }
 {
-    if bad_size(w, h) {
-        return 2;
-    }
+    size_refusal(w, h)?;
     let area = w * h;
     let quarter = w / 2 * (h / 2);
     lowest(Faults {
-        small: (w < 2) | (h < 2),
+        small: w < 2 || h < 2,
         length: grey != area,
         room: out < quarter,
         ..NONE
     })
 }
 
-pub fn threshold_refusal(w: usize, h: usize, percentile: u32, grey: usize) -> u32
-    ensures { result ≡ threshold_refusal w h percentile grey }
+#[tactic(auto, unfolding(rules::specs::Refusals::threshold_refusal))]
+pub fn threshold_refusal(w: usize, h: usize, percentile: u32, grey: usize) -> Result<(), Refusal>
+    ensures { number_in result ≡ threshold_refusal w h percentile grey }
 {
-    if bad_size(w, h) {
-        return 2;
-    }
+    size_refusal(w, h)?;
     let area = w * h;
     lowest(Faults {
         percentile: bad_percentile(percentile),
@@ -52,6 +51,7 @@ pub fn threshold_refusal(w: usize, h: usize, percentile: u32, grey: usize) -> u3
     })
 }
 
+#[tactic(auto, unfolding(rules::specs::Refusals::bitmaps_refusal))]
 pub fn bitmaps_refusal(
     w: usize,
     h: usize,
@@ -59,28 +59,25 @@ pub fn bitmaps_refusal(
     grey: usize,
     thresholds: usize,
     exclusions: usize,
-) -> u32
-    ensures { result ≡ bitmaps_refusal w h tolerance grey thresholds exclusions }
+) -> Result<(), Refusal>
+    ensures { number_in result ≡ bitmaps_refusal w h tolerance grey thresholds exclusions }
 {
-    if bad_size(w, h) {
-        return 2;
-    }
+    size_refusal(w, h)?;
     let area = w * h;
     let words = row_words(w) * h;
     lowest(Faults {
         excluded: tolerance_refusal(tolerance),
         length: grey != area,
-        room: (thresholds < words) | (exclusions < words),
+        room: thresholds < words || exclusions < words,
         ..NONE
     })
 }
 
-pub fn shift_refusal(w: usize, h: usize, bitmap: usize, out: usize) -> u32
-    ensures { result ≡ shift_refusal w h bitmap out }
+#[tactic(auto, unfolding(rules::specs::Refusals::shift_refusal))]
+pub fn shift_refusal(w: usize, h: usize, bitmap: usize, out: usize) -> Result<(), Refusal>
+    ensures { number_in result ≡ shift_refusal w h bitmap out }
 {
-    if bad_size(w, h) {
-        return 2;
-    }
+    size_refusal(w, h)?;
     let words = row_words(w) * h;
     lowest(Faults {
         length: bitmap != words,
@@ -89,12 +86,11 @@ pub fn shift_refusal(w: usize, h: usize, bitmap: usize, out: usize) -> u32
     })
 }
 
-pub fn total_refusal(w: usize, h: usize, bitmap: usize) -> u32
-    ensures { result ≡ total_refusal w h bitmap }
+#[tactic(auto, unfolding(rules::specs::Refusals::total_refusal))]
+pub fn total_refusal(w: usize, h: usize, bitmap: usize) -> Result<(), Refusal>
+    ensures { number_in result ≡ total_refusal w h bitmap }
 {
-    if bad_size(w, h) {
-        return 2;
-    }
+    size_refusal(w, h)?;
     let words = row_words(w) * h;
     lowest(Faults {
         length: bitmap != words,
@@ -102,6 +98,7 @@ pub fn total_refusal(w: usize, h: usize, bitmap: usize) -> u32
     })
 }
 
+#[tactic(auto, unfolding(rules::specs::Refusals::difference_refusal))]
 pub fn difference_refusal(
     w: usize,
     h: usize,
@@ -109,16 +106,16 @@ pub fn difference_refusal(
     exclusion1: usize,
     threshold2: usize,
     exclusion2: usize,
-) -> u32
-    ensures { result ≡ difference_refusal w h threshold1 exclusion1 threshold2 exclusion2 }
+) -> Result<(), Refusal>
+    ensures { number_in result ≡ difference_refusal w h threshold1 exclusion1 threshold2 exclusion2 }
 {
-    if bad_size(w, h) {
-        return 2;
-    }
+    size_refusal(w, h)?;
     let words = row_words(w) * h;
     lowest(Faults {
-        length: (threshold1 != words)
-            | ((exclusion1 != words) | ((threshold2 != words) | (exclusion2 != words))),
+        length: threshold1 != words
+            || exclusion1 != words
+            || threshold2 != words
+            || exclusion2 != words,
         ..NONE
     })
 }

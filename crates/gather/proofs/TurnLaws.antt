@@ -8,14 +8,18 @@ use native.Mathlib.Nat.{min-zero}
 use native.Mathlib.Omega.{arith}
 use lib.Bits.{bit_xor, differ}
 use lib.Dec.{ltb, leb, eqb}
-use lib.ListN.{length, get_or, set}
+use lib.ListN.{length, get_or, set, take, drop}
+use lib.Seq.{get_or-drop, get_or-take}
+use borrow.Rule.Slice.PartMut.{put_mid}
 use borrow.Author.Tests.{lt-leb, le-leb, ltb-true, eqb-true}
+use Rattle.std.proofs.lemmas.Grind.{common_steps}
 use Rattle.rules.specs.Sums.{gate}
 use Rattle.rules.specs.Bitmaps.{bit}
 use Rattle.rules.specs.Buffers.{RowAt}
 use Rattle.rules.proofs.SumLaws.{order}
 use Rattle.rules.proofs.FrameLaws.{row_more}
 use Rattle.words.proofs.BitLaws.{bit-and, bit-xor, bit-shr, bit-lt, bit-shl64-high, bit-shl64-low, word-is}
+use Rattle.words.proofs.PartLaws.{row-put}
 use Rattle.gather.specs.Gathers.{by_columns, turned_at, exchange_bits, exchanged}
 use Rattle.rules.proofs.CaseLaws.{and_both, all, all-at}
 
@@ -152,8 +156,20 @@ unfolding by_columns
 turned-is y v l e = word-is v (λ i. bit y (8 * (i % 8) + i / 8)) l (λ i k. ap (λ (u : ℕ). bit u i) e ∙ turned_bit y i k)
 
 -- one word more turned in its place
-pub turn-word : (to k : ℕ) (before after : List ℕ) (v : ℕ) → to + k < length before → v ≡ by_columns (bit (get_or after (to + k) 0))
-    → RowAt to (turned_at before to) before k after → RowAt to (turned_at before to) before (k + 1) (set after (to + k) v)
+pub turn-word : (k : ℕ) (before after : List ℕ) (v : ℕ) → k < length before → v ≡ by_columns (bit (get_or after k 0))
+    → RowAt 0 (turned_at before 0) before k after → RowAt 0 (turned_at before 0) before (k + 1) (set after k v)
 unfolding turned_at
-turn-word to k before after v room e r =
-    row_more to (turned_at before to) before k after v room r (e ∙ ap (λ (u : ℕ). by_columns (bit u)) (r.over (to + k) (omega arith)))
+turn-word k before after v room e r =
+    let z : 0 + k ≡ k = omega arith in
+    rw z at
+    (row_more 0 (turned_at before 0) before k after v (omega arith) r
+    (e ∙ ap (λ (u : ℕ). by_columns (bit u)) (r.over k (omega arith) ∙ ap (λ (j : ℕ). get_or before j 0) (sym z))))
+
+-- words that were lent and are back turned
+pub part-turned : (to n : ℕ) (words part : List ℕ) → to + n ≤ length words
+    → RowAt 0 (turned_at (take n (drop to words)) 0) (take n (drop to words)) n part
+    → RowAt to (turned_at words to) words n (put_mid to n words part)
+unfolding turned_at
+part-turned to n words part room r =
+    row-put to n (turned_at words to) words part (grind (arith, common_steps)) room
+    (λ k l. let z : 0 + k ≡ k = omega arith in rw z at (r.done k l) ∙ ap (λ (u : ℕ). by_columns (bit u)) (get_or-take n (drop to words) k 0 l ∙ get_or-drop to words k 0))

@@ -7,6 +7,7 @@ ghost use Rattle.rules.specs.Buffers.{RowAt};
 ghost use Rattle.gather.specs.Gathers.{by_columns, turned_at, exchanged};
 
 // Where bit p of the mask is 1, bits p and p + s of y exchanged.
+#[tactic(auto, unfolding(crate::specs::Gathers::exchanged))]
 fn exchange(mask: u64, s: u32, y: u64) -> u64
     requires { s < 64 }
     ensures { result ≡ exchanged mask s y }
@@ -30,9 +31,7 @@ pub fn turn_row(words: &mut [u64], to: usize, n: usize)
     requires { to + n ≤ length words.old }
     ensures { RowAt to (turned_at words.old to) words.old n words.new }
 {
-    let mut k: usize = 0;
-    while k < n {
-        words[to + k] = turn(words[to + k]);
-        k += 1;
+    for word in &mut words[to..to + n] {
+        *word = turn(*word);
     }
 }

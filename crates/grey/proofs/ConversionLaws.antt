@@ -1,10 +1,12 @@
 -- Laws of the grey conversion, block by block.
-use mathlib.Core.Path.{◌≡◌, refl, ◌∙◌}
+use mathlib.Core.Path.{◌≡◌, refl, ap, ◌∙◌}
 use mathlib.Core.List.{List}
 use Prim.Native.Nat.{ℕ, ◌+◌, ◌*◌, ◌-◌, ◌≤◌, ◌<◌}
 use native.Mathlib.Omega.{arith}
-use lib.ListN.{length, take, drop, length-drop}
-use borrow.Author.Rules.{part_to_end}
+use lib.ListN.{length, get_or, take, drop, length-take, length-drop}
+use borrow.Author.Rules.{rules, part_to_end}
+use borrow.Rule.Slice.PartMut.{put_mid}
+use Rattle.std.proofs.lemmas.List.{places}
 use Rattle.rules.specs.Buffers.{RowAt, Filled}
 use Rattle.rules.proofs.FrameLaws.{row-join}
 use Rattle.grey_block.specs.GreyBlocks.{byte_from, plane_at, weighed_at}
@@ -29,6 +31,21 @@ unfolding grey_from grey_at
 grey-on l from k j o =
     let a : from + 3 * j ≡ 3 * (k + j) = omega arith in
     rw a
+
+-- a block copied into a part of a list is a row of its numbers
+pub row-copied : (to n k : ℕ) (before block part : List ℕ) → to + n ≤ length before → k ≡ n → part ≡ block
+    → length part ≡ length (take k (drop to before))
+    → RowAt to (number_at block) before n (put_mid to k before part)
+unfolding number_at
+row-copied to n k before block part room whole same size = rw same (row (omega (arith, ap length same, size, length-take k (drop to before), length-drop to before)))
+  where
+    row : length block ≡ n → RowAt to (λ i. get_or block i 0) before n (put_mid to k before block)
+    row e = record {
+      len = search (rules, places);
+      under = λ m l. search (rules, places);
+      done = λ j l. search (rules, places);
+      over = λ m l. search (rules, places);
+    }
 
 -- one more block of a raster
 pub grey-more : (l block before mid after : List ℕ) (to b : ℕ)

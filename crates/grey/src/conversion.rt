@@ -6,45 +6,32 @@ ghost use Rattle.grey.specs.GreyPlaces.{grey_at, grey_from, number_at};
 
 use grey_block::{block_bytes, grey_of, planes, weighed};
 
-fn store(block: &[u8; 32], grey: &mut [u8], to: usize)
-    requires { to + 32 ≤ length grey.old }
-    ensures { RowAt to (number_at block.now) grey.old 32 grey.new }
-{
-    let mut k: usize = 0;
-    while k < 32 {
-        grey[to + k] = block[k];
-        k += 1;
-    }
-}
-
 // The grey values of a raster's first pixels, `blocks` blocks of them.
 fn convert_blocks(raster: &[u8], blocks: usize, grey: &mut [u8], to: usize)
     requires blocks_in_bounds { 96 * blocks ≤ length raster.now }
     requires blocks_in_bounds_2 { to + 32 * blocks ≤ length grey.old }
     ensures { RowAt to (grey_at raster.now) grey.old (32 * blocks) grey.new }
 {
-    let mut b: usize = 0;
-    while b < blocks {
+    for b in 0..blocks {
         let all = block_bytes(raster, 96 * b);
         let colours = planes(&all);
         let block = weighed(&colours);
-        store(&block, grey, to + 32 * b);
-        b += 1;
+        let at = to + 32 * b;
+        grey[at..at + 32].copy_from_slice(&block);
     }
 }
 
 // The grey values of n pixels whose bytes begin at `from` one by one, for what is left beside the
 // blocks.
+#[tactic(auto, unfolding(crate::specs::GreyPlaces::grey_from), using(rules::proofs::FrameLaws::row_more))]
 fn convert_rest(raster: &[u8], from: usize, n: usize, grey: &mut [u8], to: usize)
     requires n_in_bounds { from + 3 * n ≤ length raster.now }
     requires n_in_bounds_2 { to + n ≤ length grey.old }
     ensures { RowAt to (grey_from raster.now from) grey.old n grey.new }
 {
-    let mut i: usize = 0;
-    while i < n {
+    for i in 0..n {
         let r = from + 3 * i;
         grey[to + i] = grey_of(raster[r], raster[r + 1], raster[r + 2]);
-        i += 1;
     }
 }
 

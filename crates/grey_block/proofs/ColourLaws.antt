@@ -51,7 +51,7 @@ five-shuffles : (i : ℕ) → 6 * (source i % 16) + source i / 16 ≡ 3 * (i % 3
 five-shuffles i = omega arith
 
 -- five shuffles bring each colour's bytes together
-pub planes-filled : (all one two three four five : List ℕ)
+pub planes_filled : (all one two three four five : List ℕ)
     → Filled (shuffled_at all) 96 one
     → Filled (shuffled_at one) 96 two
     → Filled (shuffled_at two) 96 three
@@ -59,7 +59,7 @@ pub planes-filled : (all one two three four five : List ℕ)
     → Filled (shuffled_at four) 96 five
     → Filled (plane_at all) 96 five
 unfolding shuffled_at plane_at
-planes-filled all one two three four five a b c d e = record { done = found }
+planes_filled all one two three four five a b c d e = record { done = found }
   where
     found : (i : ℕ) → i < 96 → get_or five i 0 ≡ get_or all (3 * (i % 32) + i / 32) 0
     found i m =

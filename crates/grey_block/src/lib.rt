@@ -9,6 +9,7 @@ ghost use Rattle.rules.specs.Buffers.{Filled};
 ghost use Rattle.grey_block.specs.GreyBlocks.{byte_from, shuffled_at, plane_at, weighed_at};
 
 // In 16 bits, which hold 256 · 255: the narrower the sums, the more of them at a time.
+#[tactic(auto, unfolding(rules::specs::Greys::grey))]
 pub fn grey_of(r: u8, g: u8, b: u8) -> u8
     ensures { result ≡ grey r g b }
 {
@@ -16,16 +17,13 @@ pub fn grey_of(r: u8, g: u8, b: u8) -> u8
 }
 
 // The 96 bytes of a block's pixels, from place `from` on.
+#[tactic(auto, unfolding(crate::specs::GreyBlocks::byte_from))]
 pub fn block_bytes(raster: &[u8], from: usize) -> [u8; 96]
     requires { from + 96 ≤ length raster.now }
     ensures { Filled (byte_from raster.now from) 96 result }
 {
     let mut all = [0u8; 96];
-    let mut k: usize = 0;
-    while k < 96 {
-        all[k] = raster[from + k];
-        k += 1;
-    }
+    all.copy_from_slice(&raster[from..from + 96]);
     all
 }
 
@@ -34,16 +32,15 @@ fn shuffled(all: &[u8; 96]) -> [u8; 96]
     ensures { Filled (shuffled_at all.now) 96 result }
 {
     let mut out = [0u8; 96];
-    let mut k: usize = 0;
-    while k < 48 {
+    for k in 0..48 {
         out[2 * k] = all[k];
         out[2 * k + 1] = all[48 + k];
-        k += 1;
     }
     out
 }
 
 // The 32 reds, then the greens, then the blues.
+#[tactic(auto, using(crate::proofs::ColourLaws::planes_filled))]
 pub fn planes(all: &[u8; 96]) -> [u8; 96]
     ensures { Filled (plane_at all.now) 96 result }
 {
@@ -55,14 +52,13 @@ pub fn planes(all: &[u8; 96]) -> [u8; 96]
 }
 
 // The grey values of a block's pixels.
+#[tactic(auto, unfolding(crate::specs::GreyBlocks::weighed_at), using(rules::proofs::FilledLaws::filled_more))]
 pub fn weighed(colours: &[u8; 96]) -> [u8; 32]
     ensures { Filled (weighed_at colours.now) 32 result }
 {
     let mut block = [0u8; 32];
-    let mut k: usize = 0;
-    while k < 32 {
+    for k in 0..32 {
         block[k] = grey_of(colours[k], colours[32 + k], colours[64 + k]);
-        k += 1;
     }
     block
 }

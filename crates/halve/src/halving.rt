@@ -29,22 +29,20 @@ fn halve_blocks(src: &[u8], top: usize, bottom: usize, dst: &mut [u8], to: usize
     requires blocks_in_bounds_2 { to + 32 * blocks ≤ length dst.old }
     ensures { RowAt to (half_at src.now top bottom) dst.old (32 * blocks) dst.new }
 {
-    let mut b: usize = 0;
-    while b < blocks {
+    for b in 0..blocks {
         let k = 32 * b;
         let all = seconds(src, top + 2 * k, bottom + 2 * k);
         store_block(&all, dst, to + k);
-        b += 1;
     }
 }
 
 // The results of two rows one by one, for what is left beside the blocks.
+#[tactic(auto, unfolding(half_block::specs::HalfPlaces::half_at), using(rules::proofs::FrameLaws::row_more))]
 fn halve_rest(src: &[u8], top: usize, bottom: usize, dst: &mut [u8], to: usize, n: usize)
     requires { RowFits (length src.now) top bottom (length dst.old) to n }
     ensures { RowAt to (half_at src.now top bottom) dst.old n dst.new }
 {
-    let mut k: usize = 0;
-    while k < n {
+    for k in 0..n {
         let left = 2 * k;
         let right = left + 1;
         dst[to + k] = second_smallest(
@@ -53,7 +51,6 @@ fn halve_rest(src: &[u8], top: usize, bottom: usize, dst: &mut [u8], to: usize, 
             src[bottom + left],
             src[bottom + right],
         );
-        k += 1;
     }
 }
 
@@ -76,11 +73,8 @@ pub fn halve_frame(src: &[u8], w: usize, h: usize, dst: &mut [u8])
     ensures { FrameAt 0 (w / 2) (halved (frame_of w src.now)) dst.old (h / 2) dst.new }
 {
     let columns = w / 2;
-    let lines = h / 2;
-    let mut y: usize = 0;
-    while y < lines {
+    for y in 0..h / 2 {
         let top = 2 * y * w;
         halve_row(src, top, top + w, dst, y * columns, columns);
-        y += 1;
     }
 }

@@ -6,8 +6,8 @@ use Prim.Native.Nat.{ℕ, suc, ◌*◌, ◌-◌, ◌%◌, ◌^◌, ◌≤◌}
 use native.Mathlib.Nat.{mul_comm, pow-suc}
 use native.Mathlib.Omega.{arith}
 use lib.IntN.{ℤ}
-use lib.Pow.{shl_exact, pow_mono}
-use Rattle.rules.specs.Limits.{max_halvings, max_offset}
+use lib.Pow.{shl_exact}
+use Rattle.rules.specs.Limits.{max_halvings}
 use Rattle.rules.specs.Refusals.{◌when◌, ◌or_else◌, bad_size, bad_halvings, too_small, shape_refusal}
 use Rattle.live.specs.declared.Bracket.{Bracket}
 use Rattle.live.specs.Held.{bracket_of, held_pair, pairs_in}
@@ -36,9 +36,6 @@ module _ (w h s k : ℕ) (rest : Bool) (told : k ≡ shape_refusal w h s) where
 -- the bound of a pair's offset, 2^(s+1) − 1: the shift loses no bit
 pub bound-is : (s : ℕ) → s ≤ max_halvings → 2 * 2 ^ s % 2 ^ 32 ≡ 2 ^ suc s
 bound-is s l = shl_exact {a = 2} 2 s 32 (omega arith) (omega arith) ∙ mul_comm 2 (2 ^ s) ∙ sym (pow-suc 2 s)
-
-pub bound-small : (s : ℕ) → s ≤ max_halvings → 2 ^ suc s - 1 ≤ max_offset
-bound-small s l = let p = pow_mono {i = suc s} {j = 9} (omega arith) in omega arith
 
 -- The memory's test, from that of the bracket that was read.
 module _ (held : List ℤ) (B : Bracket) (read : B ≡ bracket_of held) where

@@ -2,7 +2,6 @@
 #![tactic(auto)]
 
 ghost use Rattle.std.specs.Prelude.{◌≡◌, ◌+◌, ◌*◌, ◌≤◌, ◌<◌, ltb, nat_abs, length};
-ghost use Rattle.rules.specs.Limits.{max_offset};
 ghost use Rattle.live.specs.Held.{held_length, pair_place, natural, bracket_of, held_pair};
 ghost use Rattle.live.specs.Steps.{some_far, bad_bracket, bad_held};
 
@@ -19,10 +18,7 @@ const BEYOND: u32 = 65536;
 fn natural(x: i32) -> u32
     ensures { result ≡ natural x }
 {
-    if x < 0 {
-        return BEYOND;
-    }
-    x as u32
+    u32::try_from(x).unwrap_or(BEYOND)
 }
 
 // Size, settings and number of frames.
@@ -48,51 +44,27 @@ pub fn bracket_of(held: &[i32]) -> Bracket
 
 // A number is in size above the bound.
 fn far(x: i32, bound: u32) -> bool
-    requires { bound ≤ max_offset }
     ensures { result ≡ ltb bound (nat_abs x) }
 {
-    let most = bound as i32;
-    if x < -most {
-        return true;
-    }
-    most < x
+    bound < x.unsigned_abs()
 }
 
 // One of the first n pairs has an offset that is in size above the bound on an axis.
 fn some_far(held: &[i32], bound: u32, n: usize) -> bool
     requires n_bound { (n < 16) × (pair_place + 2 * n ≤ length held.now) }
-    requires bound_le_max_offset { bound ≤ max_offset }
     ensures { result ≡ some_far bound (held_pair held.now) n }
 {
-    let mut k: usize = 0;
-    while k < n {
-        let at = PAIRS + 2 * k;
-        let dx = held[at];
-        let dy = held[at + 1];
-        if far(dx, bound) | far(dy, bound) {
-            return true;
-        }
-        k += 1;
-    }
-    false
+    held[PAIRS..PAIRS + 2 * n].iter().any(|x| far(*x, bound))
 }
 
 // Size, settings or number of frames break a limit.
 fn bad_bracket(b: Bracket) -> bool
     ensures { result ≡ bad_bracket b }
 {
-    let Bracket {
-        w,
-        h,
-        s,
-        tolerance,
-        percentile,
-        frames,
-    } = b;
-    if shape_refusal(w, h, s) != 0 {
+    if shape_refusal(b.w, b.h, b.s).is_err() {
         return true;
     }
-    (MAX_TOLERANCE < tolerance) | (bad_percentile(percentile) | (MAX_FRAMES < frames))
+    (MAX_TOLERANCE < b.tolerance) | (bad_percentile(b.percentile) | (MAX_FRAMES < b.frames))
 }
 
 // 16: what the numbers say, or a pair's offset in use, breaks a limit.

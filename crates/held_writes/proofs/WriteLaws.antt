@@ -7,7 +7,9 @@ use Prim.Native.Nat.{ℕ, ◌+◌, ◌*◌, ◌-◌, ◌≤◌, ◌<◌}
 use native.Mathlib.Omega.{arith}
 use lib.Dec.{eqb}
 use lib.IntN.{ℤ, pos}
-use lib.ListN.{length, get_or, set, take, drop, length-set, length-append, length-drop, get_or-append}
+use borrow.Author.Rules.{rules}
+use Rattle.std.proofs.lemmas.List.{places}
+use lib.ListN.{replicate, length, get_or, set, take, drop, length-set, length-append, length-drop, get_or-append}
 use lib.Seq.{get_or-set_same, get_or-set_other, get_or-drop, get_or-append-add, sets-eq, take_all, drop_at, drop-length, length-take-le}
 use borrow.Rule.Slice.PartMut.{put_mid, post_of, Post-is, same_len_mid}
 use mir.Syntax.{w32}
@@ -32,62 +34,28 @@ stored l i j z h e = rw e (get_or-set_same l i z (pos 0) h)
 beside : (l : List ℤ) (i j : ℕ) (z : ℤ) → (j ≡ i → ⊥) → get_or (set l i z) j (pos 0) ≡ get_or l j (pos 0)
 beside l i j z h = get_or-set_other l i j z (pos 0) h
 
--- The numbers from `from` up to i are 0.
-pub record ZeroUpTo (from i : ℕ) (before after : List ℤ) : Type 0 where
-  pub len : length after ≡ length before
-  pub under : (j : ℕ) → j < from → get_or after j (pos 0) ≡ get_or before j (pos 0)
-  pub zeros : (j : ℕ) → from ≤ j → j < i → get_or after j (pos 0) ≡ pos 0
-
-pub zero-none : (from : ℕ) (l : List ℤ) → ZeroUpTo from from l l
-zero-none from l = record { len = refl; under = λ j k. refl; zeros = λ j k m. absurd (omega arith) }
-
-pub zero_more : (from i : ℕ) (before l : List ℤ) → from ≤ i → i < length l → ZeroUpTo from i before l → ZeroUpTo from (i + 1) before (set l i (pos 0))
-zero_more from i before l past inside sofar = record {
-  len = length-set l i (pos 0) ∙ sofar.len;
-  under = λ j k. beside l i j (pos 0) (λ e. omega arith) ∙ sofar.under j k;
-  zeros = λ j k m. ⊎_elim
-      (λ (o : j < i). beside l i j (pos 0) (λ e. omega arith) ∙ sofar.zeros j k o)
-      (λ (o : i ≤ j). stored l i j (pos 0) inside (omega arith))
-      (order j i);
+-- The numbers from `from` on, filled with 0 as a part of m numbers.
+pub zero_from : (from m : ℕ) (before part : List ℤ) → from ≤ length before → m ≡ length before - from
+    → part ≡ replicate (length (take m (drop from before))) (pos 0) → ZeroFrom from before (put_mid from m before part)
+zero_from from m before part k same is = record {
+  len = search (rules, places);
+  under = λ j l. search (rules, places);
+  zeros = λ j l r. search (rules, places);
 }
 
-pub zero-all : (from i : ℕ) (before after : List ℤ) → length after ≤ i → ZeroUpTo from i before after → ZeroFrom from before after
-zero-all from i before after end sofar = record {
-  len = sofar.len;
-  under = sofar.under;
-  zeros = λ j k m. sofar.zeros j k (let e = sofar.len in omega arith);
-}
-
--- The numbers of pairs up to place i are those two places on.
-pub record MovedUpTo (i : ℕ) (before after : List ℤ) : Type 0 where
-  pub len : length after ≡ length before
-  pub done : (j : ℕ) → pair_place ≤ j → j < i → get_or after j (pos 0) ≡ get_or before (j + 2) (pos 0)
-  pub over : (j : ℕ) → i ≤ j → get_or after j (pos 0) ≡ get_or before j (pos 0)
-
-pub moved_none : (l : List ℤ) → MovedUpTo pair_place l l
-moved_none l = record { len = refl; done = λ j k m. absurd (omega arith); over = λ j k. refl }
-
-pub moved_more : (i : ℕ) (before l : List ℤ) (z : ℤ) → i < length l → z ≡ get_or l (i + 2) (pos 0) → MovedUpTo i before l → MovedUpTo (i + 1) before (set l i z)
-moved_more i before l z inside e sofar = record {
-  len = length-set l i z ∙ sofar.len;
-  done = λ j k m. ⊎_elim
-      (λ (o : j < i). beside l i j z (λ e. omega arith) ∙ sofar.done j k o)
-      (λ (o : i ≤ j). let d : j ≡ i = omega arith in stored l i j z inside d ∙ e ∙ sofar.over (i + 2) (omega arith) ∙ rw d)
-      (order j i);
-  over = λ j k. beside l i j z (λ e. omega arith) ∙ sofar.over j (omega arith);
-}
-
-pub moved-pairs : (n i : ℕ) (before after : List ℤ) → pair_place + 2 * n ≤ i → MovedUpTo i before after → PairDropped n before after
-moved-pairs n i before after end sofar = record {
-  len = sofar.len;
+-- The numbers of n pairs, copied from two places on.
+pub moved-pairs : (n : ℕ) (before after : List ℤ) → length after ≡ length before
+    → ((j : ℕ) → pair_place ≤ j → j < pair_place + 2 * n → get_or after j (pos 0) ≡ get_or before (8 + (j - pair_place)) (pos 0)) → PairDropped n before after
+moved-pairs n before after size copied = record {
+  len = size;
   pairs = λ k l. λ m. record { dx = at (2 * k) (2 * (k + 1)) (omega arith) (omega arith) m; dy = at (2 * k + 1) (2 * (k + 1) + 1) (omega arith) (omega arith) m };
 }
   where
     at : (j j' : ℕ) → j < 2 * n → j + 2 ≡ j' → get_or (drop pair_place after) j (pos 0) ≡ get_or (drop pair_place before) j' (pos 0)
     at j j' k e =
         get_or-drop pair_place after j (pos 0)
-        ∙ sofar.done (pair_place + j) (omega arith) (omega arith)
-        ∙ ap (λ (i : ℕ). get_or before i (pos 0)) (let d : pair_place + j + 2 ≡ pair_place + j' = omega arith in d)
+        ∙ copied (pair_place + j) (omega arith) (omega arith)
+        ∙ ap (λ (i : ℕ). get_or before i (pos 0)) (let d : 8 + (pair_place + j - pair_place) ≡ pair_place + j' = omega arith in d)
         ∙ sym (get_or-drop pair_place before j' (pos 0))
 
 -- A pair written into the part that begins after the first numbers.

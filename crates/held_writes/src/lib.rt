@@ -16,11 +16,7 @@ fn clear_from(held: &mut [i32], from: usize)
     requires { from ≤ length held.old }
     ensures { ZeroFrom from held.old held.new }
 {
-    let mut i = from;
-    while i < held.len() {
-        held[i] = 0;
-        i += 1;
-    }
+    held[from..].fill(0);
 }
 
 fn put_first(held: &mut [i32], b: Bracket)
@@ -70,11 +66,6 @@ pub fn drop_pair(held: &mut [i32], n: usize)
     requires n_bound { n < 15 }
     ensures { PairDropped n held.old held.new }
 {
-    let end = PAIRS + 2 * n;
-    let mut i: usize = PAIRS;
-    while i < end {
-        let number = held[i + 2];
-        held[i] = number;
-        i += 1;
-    }
+    let second = PAIRS + 2;
+    held.copy_within(second..second + 2 * n, PAIRS);
 }

@@ -10,8 +10,7 @@ fn bump(table: &mut [u32; 256], value: u8)
     requires { Room table.old value }
     ensures { Bumped value table.old table.new }
 {
-    let k = value as usize;
-    table[k] += 1;
+    table[value as usize] += 1;
 }
 
 // Four pixels a turn into four tables in turn: with one table each step of a flat frame would wait for the last.
@@ -25,14 +24,12 @@ fn count_fours(
     requires { (length grey.now ≤ max_pixels) × (Tally grey.now 0 a.old b.old c.old d.old) }
     ensures { Tally grey.now (length grey.now - length grey.now % 4) a.new b.new c.new d.new }
 {
-    let n = grey.len() - grey.len() % 4;
-    let mut i: usize = 0;
-    while i < n {
+    for turn in 0..grey.len() / 4 {
+        let i = 4 * turn;
         bump(a, grey[i]);
         bump(b, grey[i + 1]);
         bump(c, grey[i + 2]);
         bump(d, grey[i + 3]);
-        i += 4;
     }
 }
 
@@ -42,10 +39,8 @@ fn count_rest(grey: &[u8], from: usize, table: &mut [u32; 256])
     ensures { (length table.new ≡ 256)
         × ((v : ℕ) → get_or table.new v 0 + count_to grey.now from v ≡ get_or table.old v 0 + count_in grey.now v) }
 {
-    let mut i = from;
-    while i < grey.len() {
+    for i in from..grey.len() {
         bump(table, grey[i]);
-        i += 1;
     }
 }
 
@@ -54,10 +49,8 @@ fn merge(a: &mut [u32; 256], b: &[u32; 256], c: &[u32; 256], d: &[u32; 256])
     requires { (length a.old ≡ 256) × ((v : ℕ) → four a.old b.now c.now d.now v ≤ max_pixels) }
     ensures { (v : ℕ) → v < 256 → get_or a.new v 0 ≡ four a.old b.now c.now d.now v }
 {
-    let mut v: usize = 0;
-    while v < 256 {
-        a[v] = a[v] + b[v] + c[v] + d[v];
-        v += 1;
+    for v in 0..256 {
+        a[v] += b[v] + c[v] + d[v];
     }
 }
 

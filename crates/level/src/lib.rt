@@ -6,14 +6,14 @@ ghost use Rattle.rules.specs.Limits.{max_centre};
 ghost use Rattle.rules.specs.Frames.{frame_of};
 ghost use Rattle.rules.specs.Accepted.{PercentileOk};
 ghost use Rattle.rules.specs.Bitmaps.{row_words};
-ghost use Rattle.rules.specs.Levels.{Arrangement, arranged, Near};
-ghost use Rattle.popcount.specs.Table.{CountsBits};
+ghost use Rattle.rules.specs.Levels.{arranged, Near};
 ghost use Rattle.level_planes.specs.FrameSides.{Sides};
 ghost use Rattle.level.specs.Choices.{count_by, compared_by, LevelAligned};
 
-use candidates::{candidate, first_least};
+use candidates::{Ranking, candidate};
 use level_counts::nine_counts;
 use level_planes::{bitmap_words, bitmaps_within};
+use popcount::table::BitCounts;
 use rules::{Offset, Setup};
 
 // The level of the frames that begin at places `first` and `second`: its nine counts and compared
@@ -29,8 +29,8 @@ pub fn align_level(
     counts: &mut [u32],
     compared: &mut [u32],
     at: usize,
-    order: &[usize; 9],
-    table: &[u8; 256],
+    order: &Ranking,
+    table: &BitCounts,
 ) -> Offset
     requires sides { Sides setup.w setup.h }
     requires percent { PercentileOk setup.exclusion setup.percentile }
@@ -38,25 +38,16 @@ pub fn align_level(
     requires room { 6 * (row_words setup.w * setup.h) ≤ length words.old }
     requires near { Near max_centre centre }
     requires nine { (at + 9 ≤ length counts.old) × (at + 9 ≤ length compared.old) }
-    requires order { Arrangement order.now }
-    requires table { CountsBits table.now }
-    ensures { LevelAligned (arranged order.now)
+    ensures { LevelAligned (arranged order.now.places)
         (count_by setup (frame_of setup.w (drop first grey.now)) (frame_of setup.w (drop second grey.now)))
         (compared_by setup (frame_of setup.w (drop first grey.now)) (frame_of setup.w (drop second grey.now)))
         centre at counts.old counts.new compared.old compared.new result }
 {
-    let Setup {
-        w,
-        h,
-        s,
-        percentile,
-        exclusion,
-    } = setup;
-    let n = bitmap_words(w, h);
+    let n = bitmap_words(setup.w, setup.h);
     bitmaps_within(grey, first, setup, words, 0);
     bitmaps_within(grey, second, setup, words, 2 * n);
-    nine_counts(words, w, h, centre, counts, compared, at, table);
-    let rank = first_least(counts, at, order);
-    let place = order[rank];
+    nine_counts(words, setup.w, setup.h, centre, counts, compared, at, table);
+    let rank = order.first_least(counts, at);
+    let place = order.places[rank];
     candidate(centre, place)
 }

@@ -11,7 +11,7 @@ use Rattle.rules.proofs.OffsetLaws.{near_add}
 use Rattle.rules.specs.Levels.{candidate_at, step_of, Near}
 use Rattle.rules.proofs.LevelLaws.{candidate-is}
 use Rattle.rules.proofs.SignedLaws.{bits_are}
-use Rattle.candidates.proofs.LeadingLaws.{step-near}
+use Rattle.candidates.proofs.StepLaws.{step-near}
 
 pub candidate-near : (centre : Offset) (k : ℕ) → k < 9 → Near max_centre centre → Near max_candidate (candidate_at centre k)
 candidate-near centre k l near =

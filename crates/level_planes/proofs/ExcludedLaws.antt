@@ -1,17 +1,15 @@
 -- A tolerance leaves out an interval around the threshold, a band one between two thresholds.
 use mathlib.Core.Path.{◌≡◌, sym, ap, ap₂, ◌∙◌}
-use mathlib.Core.Bool.{Bool, ◌&&◌, ◌||◌, not}
 use mathlib.Core.Logic.{⊎_elim}
 use mathlib.Core.List.{List}
 use Prim.Native.Nat.{ℕ, ◌+◌, ◌*◌, ◌-◌, ◌≤◌, ◌<◌, min}
 use native.Mathlib.Nat.{mul-le-mul_right}
 use native.Mathlib.Omega.{arith}
-use lib.Dec.{leb, ltb}
+use lib.Dec.{leb}
 use lib.ListN.{length}
 use borrow.Author.Tests.{le-leb, lt-leb, lt-ltb, le-ltb, leb-true}
 use Rattle.rules.specs.declared.Exclusion.{Exclusion}
 use Rattle.rules.specs.Limits.{max_grey}
-use Rattle.rules.specs.Sums.{one_if}
 use Rattle.rules.specs.Planes.{exclusion_bit, band_bit}
 use Rattle.rules.proofs.SumLaws.{order}
 use Rattle.rules.proofs.ThresholdLaws.{least-rises}

@@ -48,12 +48,10 @@ fn pack_within(
 {
     let n = row_words(w);
     let exclusions = to + bitmap_words(w, h);
-    let mut y: usize = 0;
-    while y < h {
+    for y in 0..h {
         let row = from + y * w;
         pack_row(grey, row, w, 0, threshold, words, to + y * n);
         pack_row(grey, row, w, lo, hi, words, exclusions + y * n);
-        y += 1;
     }
 }
 
@@ -69,9 +67,9 @@ pub fn bitmaps_within(grey: &[u8], from: usize, setup: Setup, words: &mut [u64],
     let Setup {
         w,
         h,
-        s,
         percentile,
         exclusion,
+        ..
     } = setup;
     let end = from + w * h;
     let counts = histogram(&grey[from..end]);

@@ -15,13 +15,6 @@ pub struct Bracket {
     pub frames: usize,
 }
 
-// The answer of the call that tells the offsets: of how many frames.
-#[derive(Clone, Copy)]
-pub enum Told {
-    Frames(u32),
-    Refused(u32),
-}
-
 // The pairs of so many frames.
 pub fn pairs_in(frames: usize) -> usize
     ensures { result ≡ frames - 1 }

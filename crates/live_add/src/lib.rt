@@ -2,6 +2,7 @@
 #![tactic(auto)]
 
 ghost use Rattle.std.specs.Prelude.{◌≡◌, false, length};
+ghost use Rattle.rules.specs.RefusalNumbers.{coded};
 ghost use Rattle.rules.specs.Levels.{least_move_order};
 ghost use Rattle.live.specs.Held.{memory_of, bracket_of};
 ghost use Rattle.live.specs.HeldOk.{BracketOk, AddOk};
@@ -14,7 +15,7 @@ use held_writes::{put_bracket, put_pair};
 use live::Bracket;
 use live_refusals::add_refusal;
 use newest_frame::{align_newest, replace_newest};
-use rules::{Exclusion, Order, Setup, Written};
+use rules::{Exclusion, Order, Refusal, Setup};
 
 // The memory with one frame more. The first frame makes no pair; each other one is aligned with the newest,
 // and nothing else is.
@@ -23,33 +24,23 @@ fn grow(held: &mut [i32], newest: &mut [u8], raster: &[u8], grey: &mut [u8], wor
     requires accepted { AddOk false (bracket_of held.old) (length held.old) (length newest.old) (length raster.now) (length grey.old) (length words.old) }
     ensures { memory_of held.new newest.new ≡ grown least_move_order raster.now (memory_of held.old newest.old) }
 {
-    let Bracket {
-        w,
-        h,
-        s,
-        tolerance,
-        percentile,
-        frames,
-    } = bracket_of(held);
+    let bracket = bracket_of(held);
+    let frames = bracket.frames;
     let more = Bracket {
-        w,
-        h,
-        s,
-        tolerance,
-        percentile,
         frames: frames + 1,
+        ..bracket
     };
     if frames == 0 {
-        replace_newest(w, h, raster, newest);
+        replace_newest(bracket.w, bracket.h, raster, newest);
         put_bracket(held, more);
         return;
     }
     let setup = Setup {
-        w,
-        h,
-        s,
-        percentile,
-        exclusion: Exclusion::Tolerance(tolerance),
+        w: bracket.w,
+        h: bracket.h,
+        s: bracket.s,
+        percentile: bracket.percentile,
+        exclusion: Exclusion::Tolerance(bracket.tolerance),
     };
     let order = places(Order::LeastMove);
     let m = align_newest(setup, newest, raster, grey, words, &order);
@@ -64,14 +55,11 @@ pub fn add(
     raster: &[u8],
     grey: &mut [u8],
     words: &mut [u64],
-) -> Written
+) -> Result<(), Refusal>
     ensures { AddCall least_move_order raster.now held.old held.new newest.old newest.new
-        grey.old grey.new words.old words.new result }
+        grey.old grey.new words.old words.new (coded result) }
 {
-    let n = add_refusal(held, newest.len(), raster.len(), grey.len(), words.len());
-    if n != 0 {
-        return Written::Refused(n);
-    }
+    add_refusal(held, newest.len(), raster.len(), grey.len(), words.len())?;
     grow(held, newest, raster, grey, words);
-    Written::Done
+    Ok(())
 }

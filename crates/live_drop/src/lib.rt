@@ -2,6 +2,7 @@
 #![tactic(auto)]
 
 ghost use Rattle.std.specs.Prelude.{◌≡◌, [], ◌<◌, length};
+ghost use Rattle.rules.specs.RefusalNumbers.{coded};
 ghost use Rattle.rules.specs.Levels.{least_move_order};
 ghost use Rattle.live.specs.Held.{memory_of, held_length, bracket_of};
 ghost use Rattle.live.specs.HeldOk.{BracketOk};
@@ -12,7 +13,7 @@ use held_numbers::bracket_of;
 use held_writes::{drop_pair, put_bracket};
 use live::{Bracket, pairs_in};
 use live_refusals::drop_refusal;
-use rules::Written;
+use rules::Refusal;
 
 // The numbers without the oldest frame and its pair.
 fn shrink(held: &mut [i32])
@@ -20,35 +21,21 @@ fn shrink(held: &mut [i32])
     requires bracket_ok { BracketOk (bracket_of held.old) × (0 < (bracket_of held.old).frames) }
     ensures { held.new ≡ (shrunk (memory_of held.old [])).numbers }
 {
-    let Bracket {
-        w,
-        h,
-        s,
-        tolerance,
-        percentile,
-        frames,
-    } = bracket_of(held);
+    let bracket = bracket_of(held);
     let left = Bracket {
-        w,
-        h,
-        s,
-        tolerance,
-        percentile,
-        frames: frames - 1,
+        frames: bracket.frames - 1,
+        ..bracket
     };
-    let pairs = pairs_in(frames - 1);
+    let pairs = pairs_in(left.frames);
     drop_pair(held, pairs);
     put_bracket(held, left);
 }
 
 // Drops the oldest frame of a live bracket. Nothing is aligned again.
-pub fn drop_oldest(held: &mut [i32], newest: &mut [u8]) -> Written
-    ensures { DropCall least_move_order held.old held.new newest.old newest.new result }
+pub fn drop_oldest(held: &mut [i32], newest: &mut [u8]) -> Result<(), Refusal>
+    ensures { DropCall least_move_order held.old held.new newest.old newest.new (coded result) }
 {
-    let n = drop_refusal(held, newest.len());
-    if n != 0 {
-        return Written::Refused(n);
-    }
+    drop_refusal(held, newest.len())?;
     shrink(held);
-    Written::Done
+    Ok(())
 }

@@ -1,13 +1,14 @@
 // The live bracket: a held series is started.
 #![tactic(auto)]
 
+ghost use Rattle.rules.specs.RefusalNumbers.{coded};
 ghost use Rattle.rules.specs.Levels.{least_move_order};
 ghost use Rattle.live.specs.LiveCalls.{StartCall};
 
 use held_writes::put_bracket;
 use live::Bracket;
 use live_refusals::start_refusal;
-use rules::Written;
+use rules::Refusal;
 
 // Starts a live bracket in the lent memory, whatever that held: size and settings, and no frame.
 pub fn start(
@@ -18,14 +19,11 @@ pub fn start(
     percentile: u32,
     held: &mut [i32],
     newest: &mut [u8],
-) -> Written
+) -> Result<(), Refusal>
     ensures { StartCall least_move_order w h s tolerance percentile
-        held.old held.new newest.old newest.new result }
+        held.old held.new newest.old newest.new (coded result) }
 {
-    let n = start_refusal(w, h, s, tolerance, percentile, held.len(), newest.len());
-    if n != 0 {
-        return Written::Refused(n);
-    }
+    start_refusal(w, h, s, tolerance, percentile, held.len(), newest.len())?;
     let empty = Bracket {
         w,
         h,
@@ -35,5 +33,5 @@ pub fn start(
         frames: 0,
     };
     put_bracket(held, empty);
-    Written::Done
+    Ok(())
 }

@@ -7,12 +7,11 @@ use lib.ListN.{length, drop, replicate, length-replicate}
 use lib.Seq.{take_at}
 use Rattle.rules.specs.declared.Offset.{Offset}
 use Rattle.rules.specs.Levels.{Near, Every, least_move_order}
-use Rattle.rules.specs.Answers.{written, buffer_after}
+use Rattle.rules.specs.Answers.{written, buffer_after, answer_for}
 use Rattle.rules.specs.Series.{frame_offset}
 use Rattle.rules.proofs.OffsetLaws.{length-offsets}
 use Rattle.live.specs.Held.{Memory, bracket_of, held_pair}
 use Rattle.live.specs.Steps.{Call, Reply, number_of, offsets_held, made, frames_in, offsets_in, if_accepted, step}
-use Rattle.live.specs.LiveCalls.{told}
 use Rattle.live_theorems.specs.Runs.{slices_of, after_call, replies, after_all}
 use Rattle.live_theorems.specs.Sessions.{opened, session_after}
 use Rattle.live_theorems.specs.LiveLaw.{starting, HoldsSession}
@@ -26,7 +25,7 @@ written-reply zero = refl
 written-reply (suc n) = refl
 
 told-reply : (n frames : ℕ) (out before : List ℤ) → length out ≡ 2 * frames
-    → told_reply (told n (if_accepted n frames 0)) (buffer_after n (if_accepted n out []) before) ≡ record { number = n; frames = if_accepted n frames 0; offsets = if_accepted n out [] }
+    → told_reply (answer_for n (if_accepted n frames 0)) (buffer_after n (if_accepted n out []) before) ≡ record { number = n; frames = if_accepted n frames 0; offsets = if_accepted n out [] }
 told-reply zero frames out before size = λ i. record { number = 0; frames = frames; offsets = take_at out (drop (length out) before) (2 * frames) size i }
 told-reply (suc n) frames out before size = refl
 
@@ -118,7 +117,7 @@ module _ (order : List Offset) (m : Memory) where
       let out : List ℤ = offsets_held m.numbers in
       subst (λ (left : Memory). Called order m c left (step order m c).reply) (unchanged n m)
       (subst (Called order m c m) (told-reply n frames out offsets (held-size m.numbers))
-      (Called.told m offsets (buffer_after n (if_accepted n out []) offsets) (told n (if_accepted n frames 0)) (record { answered = refl; offsets_are = refl })))
+      (Called.told m offsets (buffer_after n (if_accepted n out []) offsets) (answer_for n (if_accepted n frames 0)) (record { answered = refl; offsets_are = refl })))
 
   keeps : (c : Call) → Keeps order m c
   keeps (Call.Start w h s tolerance percentile) = start-keeps w h s tolerance percentile

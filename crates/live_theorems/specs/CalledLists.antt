@@ -1,10 +1,8 @@
 -- THE LAW of the live bracket as a board sees it: what the four functions leave and answer, by nothing but their contracts (`StartCall`, `AddCall`, `DropCall` and
 -- `TellCall`, as crates/live_start, live_add, live_drop and live_tell promise them). A slice stands twice, as it was before the call and after it.
-use Rattle.std.specs.Prelude.{◌≡◌, List, [], ◌∷◌, ℕ, ◌*◌, ℤ, length, take}
+use Rattle.std.specs.Prelude.{◌≡◌, List, [], ◌∷◌, ℕ, ◌*◌, ℤ, length, take, Result, ⊤, Ok, Err}
 use Rattle.rules.specs.declared.Offset.{Offset}
-use Rattle.rules.specs.declared.Written.{Written}
 use Rattle.rules.specs.Frames.{written_over}
-use Rattle.live.specs.declared.Told.{Told}
 use Rattle.live.specs.Held.{Memory}
 use Rattle.live.specs.Steps.{Call, Reply, start_number}
 use Rattle.live.specs.LiveCalls.{StartCall, AddCall, DropCall, TellCall}
@@ -14,28 +12,28 @@ use Rattle.live_theorems.specs.LiveLaw.{starting, accepted, HoldsSession}
 use Rattle.live_theorems.specs.ReexposedSessions.{AlikeCalls}
 
 -- What a board reads of an answer: the refusal number, 0 where there is none, of how many frames offsets were told, and those offsets. Start, add and drop tell none.
-abbrev pub written_reply : Written → Reply
-written_reply Written.Done = record { number = 0; frames = 0; offsets = [] }
-written_reply (Written.Refused n) = record { number = n; frames = 0; offsets = [] }
+abbrev pub written_reply : Result ⊤ ℕ → Reply
+written_reply (Ok tt) = record { number = 0; frames = 0; offsets = [] }
+written_reply (Err n) = record { number = n; frames = 0; offsets = [] }
 
 -- those of n frames are the first 2·n numbers of the lent buffer, as it is after the call
-abbrev pub told_reply : Told → List ℤ → Reply
-told_reply (Told.Frames n) offsets' = record { number = 0; frames = n; offsets = take (2 * n) offsets' }
-told_reply (Told.Refused n) offsets' = record { number = n; frames = 0; offsets = [] }
+abbrev pub told_reply : Result ℕ ℕ → List ℤ → Reply
+told_reply (Ok n) offsets' = record { number = 0; frames = n; offsets = take (2 * n) offsets' }
+told_reply (Err n) offsets' = record { number = n; frames = 0; offsets = [] }
 
 -- ONE CALL that keeps its contract: the slices that it is handed, the call, the slices that it leaves, and what a board reads of its answer
 pub data Called (order : List Offset) : Memory → Call → Memory → Reply → Type 0 where
-  started : (m m' : Memory) (w h s tolerance percentile : ℕ) (r : Written)
+  started : (m m' : Memory) (w h s tolerance percentile : ℕ) (r : Result ⊤ ℕ)
       → StartCall order w h s tolerance percentile m.numbers m'.numbers m.newest m'.newest r
       → Called order m (Call.Start w h s tolerance percentile) m' (written_reply r)
-  added : (m m' : Memory) (raster grey grey' words words' : List ℕ) (r : Written)
+  added : (m m' : Memory) (raster grey grey' words words' : List ℕ) (r : Result ⊤ ℕ)
       → AddCall order raster m.numbers m'.numbers m.newest m'.newest grey grey' words words' r
       → Called order m (Call.Add raster (length grey) (length words)) m' (written_reply r)
-  dropped : (m m' : Memory) (r : Written)
+  dropped : (m m' : Memory) (r : Result ⊤ ℕ)
       → DropCall order m.numbers m'.numbers m.newest m'.newest r
       → Called order m Call.Drop m' (written_reply r)
   -- lent the memory for reading alone
-  told : (m : Memory) (offsets offsets' : List ℤ) (r : Told)
+  told : (m : Memory) (offsets offsets' : List ℤ) (r : Result ℕ ℕ)
       → TellCall order m.numbers m.newest offsets offsets' r
       → Called order m (Call.Tell (length offsets)) m (told_reply r offsets')
 

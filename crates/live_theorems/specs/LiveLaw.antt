@@ -1,8 +1,7 @@
 -- THE LAW of the live bracket: "For every list of these calls from an empty one, refused ones included and nothing else writing its memory, the offsets told are those of
 -- the series call on the frames then held, in order; on an empty one they are none."
-use Rattle.std.specs.Prelude.{◌≡◌, List, [], ◌∷◌, ℕ, ◌*◌, ◌-◌, ◌≤◌, ◌<◌, ℤ, length, take}
+use Rattle.std.specs.Prelude.{◌≡◌, List, [], ◌∷◌, ℕ, ◌*◌, ◌-◌, ◌≤◌, ◌<◌, ℤ, length, take, Result, ⊤, Ok}
 use Rattle.rules.specs.declared.Offset.{Offset}
-use Rattle.rules.specs.declared.Written.{Written}
 use Rattle.rules.specs.Limits.{max_frames}
 use Rattle.rules.specs.Refusals.{counts_length, grey_needed, words_needed}
 use Rattle.rules.specs.Calls.{SeriesCall}
@@ -42,12 +41,12 @@ abbrev pub SeriesTakes : List Offset → Type 0
 SeriesTakes order =
     (numbers newest w h s tolerance percentile : ℕ) (cs : List Handed) → start_number w h s tolerance percentile numbers newest ≡ 0
     → (S : Session) → S ≡ session_after (opened w h s tolerance percentile) cs → 0 < length S.rasters
-    → (offsets offsets' : List ℤ) (counts counts' compared compared' grey grey' words words' : List ℕ) (r : Written)
+    → (offsets offsets' : List ℤ) (counts counts' compared compared' grey grey' words words' : List ℕ) (r : Result ⊤ ℕ)
     → 2 * length S.rasters ≤ length offsets
     → counts_length S.s * (length S.rasters - 1) ≤ length counts → counts_length S.s * (length S.rasters - 1) ≤ length compared
     → grey_needed S.s S.w S.h ≤ length grey → words_needed S.w S.h ≤ length words
     → SeriesCall order (series_of S) (all_rasters S.rasters) offsets offsets' counts counts' compared compared' grey grey' words words' r
-    → (r ≡ Written.Done) × (take (2 * length S.rasters) offsets' ≡ series_offsets order S)
+    → (r ≡ Ok tt) × (take (2 * length S.rasters) offsets' ≡ series_offsets order S)
 
 -- all of it (proved in proofs/LawProof.antt as `live-law`, for every order of the nine, so for the calls' own)
 pub record LiveLaw (order : List Offset) : Type 0 where

@@ -7,8 +7,11 @@ use Prim.Native.Nat.{ℕ, ◌+◌, ◌*◌, ◌-◌, ◌/◌, ◌%◌, ◌≤◌
 use native.Mathlib.Nat.{mul_assoc}
 use native.Mathlib.Omega.{arith}
 use lib.Dec.{leb, ltb}
-use lib.ListN.{length, get_or}
+use lib.ListN.{length, get_or, take, drop, replicate}
 use lib.IntN.{ℤ, pos, ◌-ℤ◌}
+use borrow.Author.Rules.{rules}
+use borrow.Rule.Slice.PartMut.{put_mid}
+use Rattle.std.proofs.lemmas.List.{places, length-take-le, length-drop, length-replicate, get_or-replicate, get_or-take, get_or-drop}
 use mir.Syntax.{w32}
 use mir.Val.{SFits}
 use borrow.Author.Tests.{lt-ltb, le-ltb, le-leb, lt-leb, ltb-false}
@@ -92,6 +95,32 @@ moved-placed w h dx dy raster columns rows p q i y k l =
     ∙ p.moved (i / 3) (omega arith) (λ x. laid rows (λ z. channel w raster (i % 3) x z) y))
 
 -- ---- one row
+
+-- a run that is written as a part of the buffer, whatever stands in it
+pub row_put : (to n m : ℕ) (f : ℕ → ℕ) (before part : List ℕ) → to + n ≤ length before → m ≡ n → length part ≡ n
+    → ((k : ℕ) → k < n → get_or part k 0 ≡ f k) → RowAt to f before n (put_mid to m before part)
+row_put to n m f before part room same size is = record {
+  len = search (rules, places);
+  under = λ i l. search (rules, places);
+  done = λ k l. search (rules, places) ∙ is k l;
+  over = λ i l. search (rules, places);
+}
+
+-- by `fill`, where m is the part's length as the machine works it out
+pub row_zeros : (to n m : ℕ) (before part : List ℕ) → to + n ≤ length before → m ≡ n
+    → part ≡ replicate (length (take m (drop to before))) 0 → RowAt to zeros before n (put_mid to m before part)
+row_zeros to n m before part room same is =
+    let size : length (take m (drop to before)) ≡ n = length-take-le m (drop to before) (omega (arith, length-drop to before)) ∙ same in
+    row_put to n m zeros before part room same (ap length is ∙ length-replicate _ 0 ∙ size) (λ k l. rw is (get_or-replicate (length (take m (drop to before))) k 0 0 (omega arith)))
+
+-- by `copy_from_slice`, from place `from` of a raster on
+pub row_copied : (to n m from k : ℕ) (before part raster : List ℕ) → to + n ≤ length before → m ≡ n → from + n ≤ length raster → k ≡ n
+    → part ≡ take k (drop from raster) → RowAt to (bytes_from raster from) before n (put_mid to m before part)
+unfolding bytes_from
+row_copied to n m from k before part raster room same source whole is =
+    row_put to n m (bytes_from raster from) before part room same
+    (ap length is ∙ length-take-le k (drop from raster) (omega (arith, length-drop from raster)) ∙ whole)
+    (λ i l. rw is (get_or-take k (drop from raster) i 0 (omega arith) ∙ get_or-drop from raster i 0))
 
 -- two runs, one after the other
 row-then : (to : ℕ) (f : ℕ → ℕ) (before mid after : List ℕ) (n m : ℕ) → RowAt to f before n mid

@@ -1,6 +1,5 @@
 -- Moved frame: "the shift rule on RGB pixels with 0,0,0 outside, any two signed 32-bit numbers".
-use Rattle.std.specs.Prelude.{List, ℕ, ◌+◌, ◌*◌, ◌/◌, ◌%◌, length, get_or, ℤ}
-use Rattle.rules.specs.declared.Written.{Written}
+use Rattle.std.specs.Prelude.{List, ℕ, ◌+◌, ◌*◌, ◌/◌, ◌%◌, length, get_or, ℤ, Result, ⊤}
 use Rattle.rules.specs.Frames.{Frame, rows}
 use Rattle.rules.specs.Planes.{shifted}
 use Rattle.rules.specs.Refusals.{◌when◌, ◌or_else◌, bad_size, wrong_length, short, raster_length}
@@ -21,6 +20,6 @@ moved_refusal w h raster out =
     or_else 10 when short (raster_length w h) out
 
 -- what the call leaves
-abbrev pub MovedCall : ℕ → ℕ → ℤ → ℤ → List ℕ → List ℕ → List ℕ → Written → Type 0
+abbrev pub MovedCall : ℕ → ℕ → ℤ → ℤ → List ℕ → List ℕ → List ℕ → Result ⊤ ℕ → Type 0
 MovedCall w h dx dy raster out out' r =
     Fills (moved_refusal w h (length raster) (length out)) (rows (3 * w) h (moved_byte w h dx dy raster)) out out' r

@@ -2,7 +2,6 @@
 
 ghost use Rattle.moved.specs.Spans.{Clipped};
 
-use words::moves::smaller;
 use words::{BIAS, biased};
 
 // The places to..to+count of the moved side come from from..from+count; the others from outside.
@@ -19,14 +18,14 @@ pub fn clip(side: usize, d: i32) -> Span
 {
     let place = biased(d);
     if place < BIAS {
-        let skip = smaller(BIAS - place, side);
+        let skip = side.min(BIAS - place);
         return Span {
             to: 0,
             from: skip,
             count: side - skip,
         };
     }
-    let skip = smaller(place - BIAS, side);
+    let skip = side.min(place - BIAS);
     Span {
         to: skip,
         from: 0,

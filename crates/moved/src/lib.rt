@@ -1,23 +1,23 @@
 // The moved frame: the offered call.
 #![tactic(auto)]
 
+ghost use Rattle.rules.specs.RefusalNumbers.{coded, number_in};
 ghost use Rattle.std.specs.Prelude.{◌≡◌};
 ghost use Rattle.moved.specs.Moved.{moved_refusal, MovedCall};
 
 use clipping::clip;
 use placing::place_rows;
-use refusals::{Faults, NONE, bad_size, lowest};
-use rules::Written;
+use refusals::{Faults, NONE, lowest, size_refusal};
+use rules::Refusal;
 
 mod clipping;
 mod placing;
 
-fn moved_refusal(w: usize, h: usize, raster: usize, out: usize) -> u32
-    ensures { result ≡ moved_refusal w h raster out }
+#[tactic(auto, unfolding(crate::specs::Moved::moved_refusal))]
+fn moved_refusal(w: usize, h: usize, raster: usize, out: usize) -> Result<(), Refusal>
+    ensures { number_in result ≡ moved_refusal w h raster out }
 {
-    if bad_size(w, h) {
-        return 2;
-    }
+    size_refusal(w, h)?;
     let bytes = 3 * (w * h);
     lowest(Faults {
         length: raster != bytes,
@@ -27,13 +27,17 @@ fn moved_refusal(w: usize, h: usize, raster: usize, out: usize) -> u32
 }
 
 // The frame moved right by dx and down by dy, with 0,0,0 where nothing comes from inside.
-pub fn moved(w: usize, h: usize, dx: i32, dy: i32, raster: &[u8], out: &mut [u8]) -> Written
-    ensures { MovedCall w h dx dy raster.now out.old out.new result }
+pub fn moved(
+    w: usize,
+    h: usize,
+    dx: i32,
+    dy: i32,
+    raster: &[u8],
+    out: &mut [u8],
+) -> Result<(), Refusal>
+    ensures { MovedCall w h dx dy raster.now out.old out.new (coded result) }
 {
-    let n = moved_refusal(w, h, raster.len(), out.len());
-    if n != 0 {
-        return Written::Refused(n);
-    }
+    moved_refusal(w, h, raster.len(), out.len())?;
     place_rows(raster, out, w, h, clip(w, dx), clip(h, dy));
-    Written::Done
+    Ok(())
 }

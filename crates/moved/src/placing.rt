@@ -7,31 +7,6 @@ ghost use Rattle.moved.specs.Spans.{Inside, Sized, zeros, bytes_from, laid_byte,
 
 use crate::clipping::Span;
 
-// n zeros from place `to` on.
-fn clear(out: &mut [u8], to: usize, n: usize)
-    requires { to + n ≤ length out.old }
-    ensures { RowAt to zeros out.old n out.new }
-{
-    let mut k: usize = 0;
-    while k < n {
-        out[to + k] = 0;
-        k += 1;
-    }
-}
-
-// n bytes of the raster from place `from` on, to place `to`.
-fn copy(raster: &[u8], from: usize, out: &mut [u8], to: usize, n: usize)
-    requires source { from + n ≤ length raster.now }
-    requires room { to + n ≤ length out.old }
-    ensures { RowAt to (bytes_from raster.now from) out.old n out.new }
-{
-    let mut k: usize = 0;
-    while k < n {
-        out[to + k] = raster[from + k];
-        k += 1;
-    }
-}
-
 // The row at `to` from the raster's row z: zeros, the columns that stay, zeros.
 fn copy_row(raster: &[u8], z: usize, out: &mut [u8], to: usize, w: usize, columns: Span)
     requires width { w ≤ max_side }
@@ -43,9 +18,11 @@ fn copy_row(raster: &[u8], z: usize, out: &mut [u8], to: usize, w: usize, column
     let skip = 3 * columns.to;
     let n = 3 * columns.count;
     let from = 3 * (z * w + columns.from);
-    clear(out, to, skip);
-    copy(raster, from, out, to + skip, n);
-    clear(out, to + skip + n, 3 * w - skip - n);
+    let first = to + skip;
+    let past = first + n;
+    out[to..first].fill(0);
+    out[first..past].copy_from_slice(&raster[from..from + n]);
+    out[past..to + 3 * w].fill(0);
 }
 
 // Row y: from the raster's row that is moved to it, or zeros.
@@ -58,7 +35,7 @@ fn place_row(raster: &[u8], out: &mut [u8], y: usize, w: usize, h: usize, column
 {
     let to = y * (3 * w);
     if y < rows.to {
-        clear(out, to, 3 * w);
+        out[to..to + 3 * w].fill(0);
         return;
     }
     let k = y - rows.to;
@@ -66,7 +43,7 @@ fn place_row(raster: &[u8], out: &mut [u8], y: usize, w: usize, h: usize, column
         copy_row(raster, rows.from + k, out, to, w, columns);
         return;
     }
-    clear(out, to, 3 * w);
+    out[to..to + 3 * w].fill(0);
 }
 
 // Every row of the moved frame.
@@ -76,9 +53,7 @@ pub fn place_rows(raster: &[u8], out: &mut [u8], w: usize, h: usize, columns: Sp
     requires rows { Inside h rows }
     ensures { FrameAt 0 (3 * w) (placed_byte w raster.now columns rows) out.old h out.new }
 {
-    let mut y: usize = 0;
-    while y < h {
+    for y in 0..h {
         place_row(raster, out, y, w, h, columns, rows);
-        y += 1;
     }
 }

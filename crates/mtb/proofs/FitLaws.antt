@@ -4,6 +4,7 @@ use mathlib.Core.Bool.{Bool, true, false, cond}
 use mathlib.Core.List.{List}
 use Prim.Native.Nat.{ℕ, zero, suc, ◌+◌, ◌*◌, ◌-◌, ◌≤◌, ◌<◌}
 use native.Mathlib.Omega.{arith}
+use Rattle.std.proofs.Common.{Option, Some, None}
 use lib.IntN.{ℤ, pos, nat_abs, ◌+ℤ◌}
 use lib.Signed.{lt_z}
 use Rattle.rules.specs.Refusals.{◌when◌, bad_size, wrong_length, raster_length}
@@ -22,11 +23,12 @@ pub record SmallSize (size : Size) : Type 0 where
   pub w : size.w ≤ 4096
   pub h : size.h ≤ 4096
 
-header-small : (header : Header) (n : ℕ) → header_refusal header n ≡ 0 → SmallSize (size_in header)
+header-small : (header : Option Header) (n : ℕ) → header_refusal header n ≡ 0 → SmallSize (size_in header)
 unfolding header_refusal size_in
-header-small Header.Bad n e = absurd (omega arith)
-header-small (Header.Good w h start) n e =
-    let k = size_ok w h (or_else-no (2 when bad_size w h) (9 when wrong_length (raster_length w h) (n - start)) e).0 in
+header-small None n e = absurd (omega arith)
+header-small (Some header) n e =
+    let first = 2 when bad_size header.w header.h in
+    let k = size_ok header.w header.h (or_else-no first (9 when wrong_length (raster_length header.w header.h) (n - header.start)) e).0 in
     record { w = k.width; h = k.height }
 
 pub size_small : (file : List ℕ) → p6_refusal file ≡ 0 → SmallSize (size_in (header_of file))

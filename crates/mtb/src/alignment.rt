@@ -2,15 +2,14 @@
 // the answer that a call gives: accepted where it is 0, else refused with it.
 
 ghost use Rattle.std.specs.Prelude.{◌≡◌};
-ghost use Rattle.rules.specs.Answers.{written, paired};
+ghost use Rattle.rules.specs.Answers.{answer_for, written};
 ghost use Rattle.rules.specs.Levels.{ward_order, least_move_order};
 ghost use Rattle.rules.specs.Calls.{tolerance_setup, band_setup, PairCall, tolerance_settings, band_settings, SeriesCall};
 ghost use Rattle.rules.specs.Refusals.{shape_refusal, grey_needed, words_needed};
-ghost use Rattle.rotation.specs.Turns.{rotation};
 ghost use Rattle.quadrants.specs.QuadrantsCalls.{QuadrantsCall};
 ghost use Rattle.c_answers.specs.Values.{value_after, offset};
 
-use c_answers::{moved_into, refusal_in, turned_into};
+use c_answers::{moved_into, refusal_in, value_into};
 use pair::{pair, pair_ward};
 use pair_band::pair_band;
 use quadrants::quadrants;
@@ -37,7 +36,7 @@ pub extern "C" fn mtb_pair(
     ensures call { PairCall least_move_order (tolerance_setup w h s tolerance percentile) first.now second.now
         counts.old counts.new compared.old compared.new
         grey.old grey.new words.old words.new
-        (paired result (offset dx.new dy.new)) }
+        (answer_for result (offset dx.new dy.new)) }
     ensures refused { (result ≡ 0 → ⊥) → (dx.new ≡ dx.old) × (dy.new ≡ dy.old) }
 {
     let answer = pair(
@@ -103,7 +102,7 @@ pub extern "C" fn mtb_pair_ward(
     ensures call { PairCall ward_order (tolerance_setup w h s tolerance percentile) first.now second.now
         counts.old counts.new compared.old compared.new
         grey.old grey.new words.old words.new
-        (paired result (offset dx.new dy.new)) }
+        (answer_for result (offset dx.new dy.new)) }
     ensures refused { (result ≡ 0 → ⊥) → (dx.new ≡ dx.old) × (dy.new ≡ dy.old) }
 {
     let answer = pair_ward(
@@ -169,7 +168,7 @@ pub extern "C" fn mtb_pair_band(
     ensures call { PairCall least_move_order (band_setup w h s band percentile) first.now second.now
         counts.old counts.new compared.old compared.new
         grey.old grey.new words.old words.new
-        (paired result (offset dx.new dy.new)) }
+        (answer_for result (offset dx.new dy.new)) }
     ensures refused { (result ≡ 0 → ⊥) → (dx.new ≡ dx.old) × (dy.new ≡ dy.old) }
 {
     let answer = pair_band(
@@ -231,13 +230,13 @@ pub extern "C" fn mtb_quadrants(
 ) -> u32
     ensures call { QuadrantsCall least_move_order (tolerance_setup w h s tolerance percentile) first.now second.now
         offsets.old offsets.new grey.old grey.new words.old words.new
-        (rotation result turned.new) }
+        (answer_for result turned.new) }
     ensures refused { (result ≡ 0 → ⊥) → turned.new ≡ turned.old }
 {
     let answer = quadrants(
         w as usize, h as usize, s, tolerance, percentile, first, second, offsets, grey, words,
     );
-    turned_into(answer, turned)
+    value_into(answer, turned)
 }
 
 // The bytes of grey work memory; 0 when the sizes or s are refused.
@@ -245,10 +244,10 @@ pub extern "C" fn mtb_quadrants(
 pub extern "C" fn mtb_grey_needed(w: u32, h: u32, s: u32) -> usize
     ensures { result ≡ value_after (shape_refusal w h s) (grey_needed s w h) 0 }
 {
-    if shape_refusal(w as usize, h as usize, s) != 0 {
-        return 0;
+    match shape_refusal(w as usize, h as usize, s) {
+        Ok(()) => grey_memory(w as usize, h as usize, s),
+        Err(_) => 0,
     }
-    grey_memory(w as usize, h as usize, s)
 }
 
 // The 64-bit words of word work memory; 0 when the sizes or s are refused.
@@ -256,8 +255,8 @@ pub extern "C" fn mtb_grey_needed(w: u32, h: u32, s: u32) -> usize
 pub extern "C" fn mtb_words_needed(w: u32, h: u32, s: u32) -> usize
     ensures { result ≡ value_after (shape_refusal w h s) (words_needed w h) 0 }
 {
-    if shape_refusal(w as usize, h as usize, s) != 0 {
-        return 0;
+    match shape_refusal(w as usize, h as usize, s) {
+        Ok(()) => word_memory(w as usize, h as usize),
+        Err(_) => 0,
     }
-    word_memory(w as usize, h as usize)
 }

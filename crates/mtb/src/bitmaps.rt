@@ -8,8 +8,7 @@ ghost use Rattle.rules.specs.Refusals.{total_refusal, difference_refusal};
 ghost use Rattle.rules.specs.Calls.{BitmapsCall, ShiftCall, planes_of, tally_of};
 ghost use Rattle.c_answers.specs.Values.{value_after};
 
-use c_answers::refusal_in;
-use rules::{Counted, Tallied};
+use c_answers::{refusal_in, value_into};
 
 #[unsafe(no_mangle)]
 pub extern "C" fn mtb_bitmaps(
@@ -48,13 +47,7 @@ pub extern "C" fn mtb_total(w: u32, h: u32, bitmap: &[u64], count: &mut u32) -> 
     ensures answer { result ≡ total_refusal w h (length bitmap.now) }
     ensures count { count.new ≡ value_after result (total w h (bit_at w h bitmap.now)) count.old }
 {
-    match total::total(w as usize, h as usize, bitmap) {
-        Counted::Count(ones) => {
-            *count = ones;
-            0
-        }
-        Counted::Refused(n) => n,
-    }
+    value_into(total::total(w as usize, h as usize, bitmap), count)
 }
 
 #[unsafe(no_mangle)]
@@ -82,11 +75,11 @@ pub extern "C" fn mtb_difference(
     match difference::difference(
         w as usize, h as usize, dx, dy, threshold1, exclusion1, threshold2, exclusion2,
     ) {
-        Tallied::Tally(tally) => {
+        Ok(tally) => {
             *count = tally.count;
             *compared = tally.compared;
             0
         }
-        Tallied::Refused(n) => n,
+        Err(refusal) => u32::from(refusal),
     }
 }

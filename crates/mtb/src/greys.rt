@@ -8,10 +8,10 @@ ghost use Rattle.rules.specs.Thresholds.{threshold};
 ghost use Rattle.rules.specs.Calls.{GreyCall, HalveCall};
 ghost use Rattle.c_answers.specs.Values.{value_after};
 
-use c_answers::refusal_in;
+use c_answers::{refusal_in, value_into};
 use grey::to_grey;
 use halve::halve;
-use rules::Thresholded;
+use threshold::threshold;
 
 #[unsafe(no_mangle)]
 pub extern "C" fn mtb_grey(w: u32, h: u32, raster: &[u8], grey: &mut [u8]) -> u32
@@ -32,11 +32,5 @@ pub extern "C" fn mtb_threshold(w: u32, h: u32, percentile: u32, grey: &[u8], va
     ensures answer { result ≡ threshold_refusal w h percentile (length grey.now) }
     ensures value { value.new ≡ value_after result (threshold w h percentile (frame_of w grey.now)) value.old }
 {
-    match threshold::threshold(w as usize, h as usize, percentile, grey) {
-        Thresholded::At(t) => {
-            *value = t;
-            0
-        }
-        Thresholded::Refused(n) => n,
-    }
+    value_into(threshold(w as usize, h as usize, percentile, grey), value)
 }

@@ -2,11 +2,11 @@
 // gives: accepted where it is 0, else refused with it.
 
 ghost use Rattle.std.specs.Prelude.{◌≡◌};
-ghost use Rattle.rules.specs.Answers.{written};
+ghost use Rattle.rules.specs.Answers.{answer_for, written};
 ghost use Rattle.rules.specs.Levels.{least_move_order};
-ghost use Rattle.live.specs.LiveCalls.{StartCall, AddCall, DropCall, told, TellCall};
+ghost use Rattle.live.specs.LiveCalls.{StartCall, AddCall, DropCall, TellCall};
 
-use c_answers::{refusal_in, told_into};
+use c_answers::{refusal_in, value_into};
 use live_add::add;
 use live_drop::drop_oldest;
 use live_start::start;
@@ -58,9 +58,8 @@ pub extern "C" fn mtb_live_offsets(
     offsets: &mut [i32],
     frames: &mut u32,
 ) -> u32
-    ensures call { TellCall least_move_order held.now newest.now offsets.old offsets.new (told result frames.new) }
+    ensures call { TellCall least_move_order held.now newest.now offsets.old offsets.new (answer_for result frames.new) }
     ensures refused { (result ≡ 0 → ⊥) → frames.new ≡ frames.old }
 {
-    let answer = tell(held, newest, offsets);
-    told_into(answer, frames)
+    value_into(tell(held, newest, offsets), frames)
 }

@@ -7,8 +7,8 @@ ghost use Rattle.rules.specs.Answers.{written};
 ghost use Rattle.blink.specs.Blink.{blink_refusal, row_start, blink_row};
 ghost use Rattle.c_answers.specs.Values.{value_after};
 
-use area::{Common, common_area};
-use blink::{Row, blink_row, blink_start};
+use area::common_area;
+use blink::{blink_row, blink_start};
 use c_answers::refusal_in;
 use moved::moved;
 
@@ -30,14 +30,14 @@ pub extern "C" fn mtb_common_area(
     ensures bottom { bottom.new ≡ value_after result (common_area w h n offsets.now).bottom bottom.old }
 {
     match common_area(w as usize, h as usize, n as usize, offsets) {
-        Common::Area(area) => {
+        Ok(area) => {
             *left = area.left as u32;
             *right = area.right as u32;
             *top = area.top as u32;
             *bottom = area.bottom as u32;
             0
         }
-        Common::Refused(k) => k,
+        Err(refusal) => u32::from(refusal),
     }
 }
 
@@ -65,12 +65,12 @@ pub extern "C" fn mtb_blink_row<'a>(
     ensures bytes { bytes.new ≡ value_after result (length (blink_row w h y other first.now second.now)) bytes.old }
 {
     match blink_start(w as usize, h as usize, y as usize, first, second) {
-        Row::At(from) => {
+        Ok(from) => {
             let row = blink_row(w as usize, h as usize, y as usize, other, first, second);
             *start = from;
             *bytes = row.len();
             0
         }
-        Row::Refused(n) => n,
+        Err(refusal) => u32::from(refusal),
     }
 }

@@ -1,21 +1,24 @@
 -- Grey frames copied and converted into the lent memories, and what stands there then.
 use mathlib.Core.Path.{◌≡◌, ap, ◌∙◌}
 use mathlib.Core.List.{List, [], ◌++◌, append-nil}
-use Prim.Native.Nat.{ℕ, ◌+◌, ◌*◌, ◌≤◌}
+use Prim.Native.Nat.{ℕ, ◌+◌, ◌*◌, ◌-◌, ◌≤◌, ◌<◌}
 use native.Mathlib.Omega.{arith}
 use lib.ListN.{length, get_or, drop, drop_of_length-le}
+use lib.Seq.{get_or-drop}
+use borrow.Author.Rules.{rules}
+use borrow.Rule.Slice.PartMut.{put_mid}
+use Rattle.std.proofs.lemmas.List.{places}
 use Rattle.rules.specs.declared.Offset.{Offset}
 use Rattle.rules.specs.declared.Setup.{Setup}
 use Rattle.rules.specs.Frames.{frame_of, rows}
 use Rattle.rules.specs.Greys.{grey_frame}
-use Rattle.rules.specs.Buffers.{RowAt, FrameAt}
+use Rattle.rules.specs.Buffers.{RowAt}
 use Rattle.rules.specs.Levels.{rule_of, Aligned}
-use Rattle.rules.proofs.FrameLaws.{length-rows, get_d_rows, frame-written, flat-frame}
+use Rattle.rules.proofs.FrameLaws.{pixel-fits, length-rows, get_d_rows, frame-written, flat-frame}
 use Rattle.rules.proofs.PairLaws.{pair-ext}
-use Rattle.grey.specs.GreyPlaces.{grey_at, number_at}
-use Rattle.align.specs.Aligns.{Frames, Aligns}
-use Rattle.align.proofs.WrittenLaws.{stands, stays}
-use Rattle.newest_frame.specs.NewestFrames.{NewestOk, Replaced, FramesPut, NewestAligned}
+use Rattle.grey.specs.GreyPlaces.{grey_at}
+use Rattle.align.specs.Aligns.{Aligns}
+use Rattle.newest_frame.specs.NewestFrames.{Replaced, FramesPut, NewestAligned}
 
 -- the newest grey once a raster is converted into it
 pub replaced : (w h : ℕ) (raster newest newest' : List ℕ) → length newest ≡ w * h → RowAt 0 (grey_at raster) newest (w * h) newest' → Replaced w h raster newest'
@@ -31,42 +34,39 @@ replaced w h raster newest newest' size r =
     nothing : drop (length (rows w h (grey_frame w raster))) newest ≡ []
     nothing = drop_of_length-le newest long
 
--- All that the three steps leave.
-pub frames-put : (w h : ℕ) (newest newest' raster grey mid grey' : List ℕ) → length newest ≡ w * h → Replaced w h raster newest'
-    → RowAt 0 (number_at newest) grey (length newest) mid → RowAt (w * h) (number_at newest') mid (length newest') grey'
-    → FramesPut w h newest newest' raster (length grey) grey'
-unfolding frame_of number_at
-frames-put w h newest newest' raster grey mid grey' size new one two = record {
-  len = two.len ∙ one.len;
-  first = stays (w * h) w h (frame_of w newest) (frame_of w newest') grey mid grey' front (omega arith) behind;
-  second = λ x y k m.
-      stands (w * h) w h (frame_of w newest') mid grey' behind x y k m
-      ∙ ap (λ (l : List ℕ). get_or l (y * w + x) 0) new
-      ∙ get_d_rows w h (grey_frame w raster) x y k m;
-  replaced = new;
-}
-  where
-    front : FrameAt 0 w (frame_of w newest) grey h mid
-    front = flat-frame 0 w h (number_at newest) grey mid (rw size at one)
+-- two lists of n numbers copied to the beginning of a lent one, one behind the other
+abbrev pub both_put : ℕ → List ℕ → List ℕ → List ℕ → List ℕ
+both_put n one two lent = put_mid n (2 * n - n) (one ++ drop n lent) two
 
-    behind : FrameAt (w * h) w (frame_of w newest') mid h grey'
-    behind = flat-frame (w * h) w h (number_at newest') mid grey' (rw (ap length new ∙ length-rows w h (grey_frame w raster)) at two)
+module _ (n : ℕ) (one two lent : List ℕ) (size : length one ≡ n) (size' : length two ≡ n) (room : 2 * n ≤ length lent) where
+  put-length : length (both_put n one two lent) ≡ length lent
+  put-length = search (rules, places)
 
--- what the recursion needs
-pub newest-frames : (S : Setup) (newest raster grey words : ℕ) → NewestOk S newest raster grey words → Frames 0 (S.w * S.h) S grey
-newest-frames S newest raster grey words k = record {
-  wide = k.shape.wide;
-  width = k.shape.size.width;
-  high = k.shape.high;
-  height = k.shape.size.height;
-  halvings = k.shape.halvings;
-  percentiles = k.percentiles;
-  one = omega arith;
-  two = omega arith;
-  room = k.greys;
-}
+  put-first : (k : ℕ) → k < n → get_or (both_put n one two lent) k 0 ≡ get_or one k 0
+  put-first k l = search (rules, places)
 
--- and its answer, from what stands in the memory
+  put-second : (k : ℕ) → k < n → get_or (both_put n one two lent) (n + k) 0 ≡ get_or two k 0
+  put-second k l = search (rules, places)
+
+-- All that the three steps leave: the newest frame at the beginning of the work memory, the new one behind it.
+pub frames-put : (w h : ℕ) (newest newest' raster grey one two : List ℕ) → length newest ≡ w * h → 2 * (w * h) ≤ length grey
+    → one ≡ newest → Replaced w h raster newest' → two ≡ newest'
+    → FramesPut w h newest newest' raster (length grey) (both_put (w * h) one two grey)
+unfolding frame_of
+frames-put w h newest newest' raster grey one two size room front new behind =
+    let size' : length newest' ≡ w * h = ap length new ∙ length-rows w h (grey_frame w raster) in
+    rw (front, behind) (record {
+      len = put-length (w * h) newest newest' grey size size' room;
+      first = λ x y k m. put-first (w * h) newest newest' grey size size' room (y * w + x) (pixel-fits w h x y k m);
+      second = λ x y k m.
+          get_or-drop (w * h) (both_put (w * h) newest newest' grey) (y * w + x) 0
+          ∙ put-second (w * h) newest newest' grey size size' room (y * w + x) (pixel-fits w h x y k m)
+          ∙ ap (λ (l : List ℕ). get_or l (y * w + x) 0) new
+          ∙ get_d_rows w h (grey_frame w raster) x y k m;
+      replaced = new;
+    })
+
+-- the recursion's answer, from what stands in the memory
 pub newest-aligned : (order : List Offset) (S : Setup) (newest newest' raster : List ℕ) (bytes : ℕ) (grey grey' counts counts' compared compared' : List ℕ) (r : Offset)
     → FramesPut S.w S.h newest newest' raster bytes grey → Aligns order S 0 (S.w * S.h) 0 grey grey' counts counts' compared compared' r
     → NewestAligned order S newest newest' raster r

@@ -3,7 +3,7 @@ use mathlib.Core.Path.{◌≡◌, refl, sym, ap, subst, ◌∙◌}
 use mathlib.Core.Logic.{◌⊎◌, inl, inr, ⊎_elim}
 use mathlib.Core.List.{List}
 use Prim.Native.Nat.{ℕ, suc, ◌+◌, ◌*◌, ◌-◌, ◌%◌, ◌^◌, ◌≤◌, ◌<◌}
-use native.Mathlib.Nat.{zero-add, zero-mul, one-mul, suc-mul, mul_comm, mul-le-mul_right}
+use native.Mathlib.Nat.{zero-add, zero-mul, suc-mul, mul_comm, mul-le-mul_right}
 use native.Mathlib.Numerals.{add-one}
 use native.Mathlib.Omega.{arith}
 use lib.IntN.{ℤ}
@@ -12,7 +12,6 @@ use lib.Seq.{get_or-drop}
 use lib.Pow.{pow_mono}
 use borrow.Author.Tests.{eq-eqb, ne_eqb}
 use Rattle.rules.specs.declared.Offset.{Offset}
-use Rattle.rules.specs.declared.Exclusion.{Exclusion}
 use Rattle.rules.specs.declared.Setup.{Setup}
 use Rattle.rules.specs.Limits.{max_offset}
 use Rattle.rules.specs.Frames.{frame_of, written_over, SameFrame}
@@ -32,7 +31,7 @@ use Rattle.grey.specs.GreyPlaces.{grey_at}
 use Rattle.align.specs.Aligns.{Frames, Aligns, aligned_in}
 use Rattle.align.proofs.WrittenLaws.{converted, row_written}
 use Rattle.offsets.specs.PairOffsets.{with_offset, SmallPairs}
-use Rattle.offsets.proofs.PairOffsetLaws.{put_next, written-length, written-pair}
+use Rattle.offsets.proofs.PairOffsetLaws.{put_next, written-pair}
 use Rattle.next_pair.specs.PairRuns.{place_of, frame_at, Stands, pair_at, setup_at, pairs_of, Room, PairsOk, Ran, Run, AllRan}
 
 -- The two places.
@@ -81,15 +80,6 @@ compared-sizes : (preferred : List Offset) (S : Setup) (percentiles rasters : Li
 compared-sizes preferred S percentiles rasters j =
     compared-length preferred (rule_of S.exclusion) (get_or percentiles j 0) S.s S.w S.h (frame_at S rasters j) (frame_at S rasters (j + 1))
 
--- a setup from its parts
-abbrev pub made : ℕ → ℕ → ℕ → ℕ → Exclusion → Setup
-made w h s percentile exclusion = record { w = w; h = h; s = s; percentile = percentile; exclusion = exclusion }
-
--- writing pairs' offsets leaves their list as long as it was
-pub pairs-length : (n k : ℕ) (answers : ℕ → Aligned) (pairs pairs' : List ℤ) → k + 1 ≤ n → 2 * (n - 1) ≤ length pairs
-    → pairs' ≡ written_over (offset_list k (λ j. (answers j).offset)) pairs → length pairs' ≡ length pairs
-pairs-length n k answers pairs pairs' l room e = ap length e ∙ written-length k (λ j. (answers j).offset) pairs (omega arith)
-
 -- the places of pair k among those of all pairs
 pair-places : (each n k room : ℕ) → k + 1 < n → each * (n - 1) ≤ room → k * each + each ≤ room
 pair-places each n k room l r =
@@ -117,10 +107,6 @@ room_at S n ps rasters pairs counts compared grey words k o l =
       greys = o.greys;
       bitmaps = o.bitmaps;
     }
-
--- a series has a first frame
-pub whole_room : (n w h rasters : ℕ) → 0 < n → rasters ≡ n * (3 * (w * h)) → 3 * (w * h) ≤ rasters
-whole_room n w h rasters l e = let a = mul-le-mul_right {m = 1} {n = n} (3 * (w * h)) l in let b = one-mul (3 * (w * h)) in omega arith
 
 -- The same lengths have the same room.
 pub room-kept : (S : Setup) (n : ℕ) (ps : List ℕ) (rasters pairs counts compared grey words pairs' counts' compared' grey' words' : ℕ)

@@ -2,17 +2,19 @@
 #![tactic(auto)]
 
 ghost use Rattle.std.specs.Prelude.{◌≡◌, length};
-ghost use Rattle.rules.specs.Levels.{Arrangement, arranged};
-ghost use Rattle.popcount.specs.Table.{CountsBits};
+ghost use Rattle.rules.specs.Levels.{arranged};
 ghost use Rattle.next_pair.specs.PairRuns.{place_of, Stands, pair_at, Room, Ran};
 
 use align::align_frames;
+use candidates::Ranking;
 use grey::conversion::convert;
 use offsets::put_offset;
+use popcount::table::BitCounts;
 use rules::Setup;
 
 // Frame k's place in the lent grey memory. The next frame's is the other one, so each frame's grey
 // is worked out once, and stays while it is its neighbour's turn.
+#[tactic(auto, unfolding(crate::specs::PairRuns::place_of))]
 fn place(k: usize, area: usize) -> usize
     ensures { result ≡ place_of k area }
 {
@@ -29,30 +31,21 @@ pub fn align_next(
     compared: &mut [u32],
     grey: &mut [u8],
     words: &mut [u64],
-    order: &[usize; 9],
-    table: &[u8; 256],
+    order: &Ranking,
+    table: &BitCounts,
 )
     requires room { Room setup k (length rasters.now) (length pairs.old) (length counts.old) (length compared.old) (length grey.old) (length words.old) }
     requires stands { Stands setup rasters.now k grey.old }
-    requires order { Arrangement order.now }
-    requires table { CountsBits table.now }
-    ensures { Ran setup k rasters.now (pair_at (arranged order.now) setup rasters.now k)
+    ensures { Ran setup k rasters.now (pair_at (arranged order.now.places) setup rasters.now k)
         pairs.old pairs.new counts.old counts.new
         compared.old compared.new grey.new }
 {
-    let Setup {
-        w,
-        h,
-        s,
-        percentile,
-        exclusion,
-    } = setup;
-    let area = w * h;
+    let area = setup.w * setup.h;
     let first = place(k, area);
     let second = place(k + 1, area);
     let from = (k + 1) * (3 * area);
     convert(&rasters[from..], area, grey, second);
-    let at = k * (9 * (s as usize + 1));
+    let at = k * (9 * (setup.s as usize + 1));
     let m = align_frames(
         grey, first, second, setup, words, counts, compared, at, order, table,
     );

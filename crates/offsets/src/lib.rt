@@ -10,16 +10,13 @@ ghost use Rattle.offsets.specs.PairOffsets.{max_frame_offset, pair_offset, with_
 
 use rules::Offset;
 
-// Writes offset k of a list. (The language stores no field directly, only a local.)
+// Writes offset k of a list.
 pub fn put_offset(list: &mut [i32], k: usize, m: Offset)
     requires { 2 * k + 2 ≤ length list.old }
     ensures { list.new ≡ with_offset k m list.old }
 {
-    let at = 2 * k;
-    let dx = m.dx;
-    let dy = m.dy;
-    list[at] = dx;
-    list[at + 1] = dy;
+    list[2 * k] = m.dx;
+    list[2 * k + 1] = m.dy;
 }
 
 // The offset of frame k + 1: that of frame k, and that of their pair.
@@ -28,10 +25,10 @@ fn next_offset(m: Offset, pairs: &[i32], k: usize) -> Offset
     requires near { Near max_frame_offset m × Near max_offset (pair_offset pairs.now k) }
     ensures { result ≡ added m (pair_offset pairs.now k) }
 {
-    let at = 2 * k;
-    let dx = m.dx + pairs[at];
-    let dy = m.dy + pairs[at + 1];
-    Offset { dx, dy }
+    Offset {
+        dx: m.dx + pairs[2 * k],
+        dy: m.dy + pairs[2 * k + 1],
+    }
 }
 
 // An offset turned round: that of frame 0 from frame r, for that of frame r from frame 0.
@@ -39,9 +36,10 @@ fn turned(m: Offset) -> Offset
     requires { Near max_frame_offset m }
     ensures { result ≡ opposite m }
 {
-    let left = -m.dx;
-    let up = -m.dy;
-    Offset { dx: left, dy: up }
+    Offset {
+        dx: -m.dx,
+        dy: -m.dy,
+    }
 }
 
 // Frame r's offset from frame 0: the sum of the pairs before it.
@@ -51,10 +49,8 @@ fn from_first(pairs: &[i32], r: usize) -> Offset
     ensures { result ≡ frame_offset (pair_offset pairs.now) 0 r }
 {
     let mut sum = Offset { dx: 0, dy: 0 };
-    let mut k: usize = 0;
-    while k < r {
+    for k in 0..r {
         sum = next_offset(sum, pairs, k);
-        k += 1;
     }
     sum
 }
@@ -68,13 +64,10 @@ pub fn frame_offsets(pairs: &[i32], n: usize, r: usize, offsets: &mut [i32])
     requires small { SmallPairs (n - 1) pairs.now }
     ensures { offsets.new ≡ written_over (offset_list n (frame_offset (pair_offset pairs.now) r)) offsets.old }
 {
-    let sum = from_first(pairs, r);
-    let mut m = turned(sum);
-    let mut k: usize = 0;
-    while k + 1 < n {
+    let mut m = turned(from_first(pairs, r));
+    for k in 0..n - 1 {
         put_offset(offsets, k, m);
         m = next_offset(m, pairs, k);
-        k += 1;
     }
-    put_offset(offsets, k, m);
+    put_offset(offsets, n - 1, m);
 }

@@ -1,7 +1,7 @@
 // The printed lines, put into a buffer piece by piece. Each function answers the place after its text.
 #![tactic(auto)]
 
-ghost use Rattle.std.specs.Prelude.{◌≡◌, ◌++◌, ◌+◌, ◌*◌, ◌≤◌, nat_abs, length};
+ghost use Rattle.std.specs.Prelude.{◌≡◌, ◌++◌, ◌+◌, ◌*◌, ◌≤◌, length};
 ghost use Rattle.output_lines.specs.Lines.{refused_text, signed, offset_text, counts_text, level_text, levels_text};
 ghost use Rattle.output_lines.specs.Writes.{Wrote};
 
@@ -18,15 +18,6 @@ pub fn put_refused(out: &mut [u8], n: u32) -> usize
     put(out, end, b"\n")
 }
 
-fn magnitude(n: i32) -> u32
-    ensures { result ≡ nat_abs n }
-{
-    if n < 0 {
-        return (-(n as i64)) as u32;
-    }
-    n as u32
-}
-
 // A signed number, with `-` before it when negative.
 fn put_signed(out: &mut [u8], at: usize, n: i32) -> usize
     requires { at + length (signed n) ≤ length out.old }
@@ -34,9 +25,9 @@ fn put_signed(out: &mut [u8], at: usize, n: i32) -> usize
 {
     if n < 0 {
         let next = put(out, at, b"-");
-        return put_number(out, next, magnitude(n));
+        return put_number(out, next, n.unsigned_abs());
     }
-    put_number(out, at, magnitude(n))
+    put_number(out, at, n.unsigned_abs())
 }
 
 // The offset line.
@@ -57,11 +48,9 @@ fn put_counts(out: &mut [u8], at: usize, counts: &[u32]) -> usize
     ensures { Wrote at (counts_text counts.now) out.old result out.new }
 {
     let mut next = at;
-    let mut k: usize = 0;
-    while k < counts.len() {
+    for count in counts {
         let gap = put(out, next, b" ");
-        next = put_number(out, gap, counts[k]);
-        k += 1;
+        next = put_number(out, gap, *count);
     }
     next
 }

@@ -8,6 +8,8 @@ use native.Mathlib.Nat.{add-zero}
 use native.Mathlib.Numerals.{add-one}
 use native.Mathlib.Omega.{arith}
 use lib.Dec.{eqb}
+use Rattle.std.proofs.Common.{Option, Some, None}
+use Rattle.std.proofs.lemmas.Option.{same_Some, none-some}
 use lib.ListN.{length, get_or, take, drop, length-append, length-drop, take-append-drop}
 use lib.Seq.{drop-cons, take_at, drop-append_seam, drop-drop, get_or-drop}
 use borrow.Author.Tests.{le-leb, eqb-true, not-true}
@@ -27,11 +29,11 @@ use Rattle.p6_header.proofs.HeaderLaws.{magic-begins}
 
 -- a field that stands at place `at`, and what follows it
 field_next : {value : ℕ} {bytes : List ℕ} (file : List ℕ) (at : ℕ) (l : List ℕ) → Field WhiteOrComment value bytes → drop at file ≡ bytes ++ l → leading is_digit l ≡ 0
-    → (field_of (drop at file) ≡ Number.Read value (length bytes)) × (drop (at + length bytes) file ≡ l)
+    → (field_of (drop at file) ≡ Some (record { value = value; count = length bytes })) × (drop (at + length bytes) file ≡ l)
 field_next {value} {bytes} file at l f d z =
     (rw d (field_found f l z), sym (drop-drop (length bytes) at file) ∙ rw d (drop-append_seam bytes l))
 
-found : (file : List ℕ) (w h start : ℕ) → P6 WhiteOrComment file w h start → header_of file ≡ Header.Good w h start
+found : (file : List ℕ) (w h start : ℕ) → P6 WhiteOrComment file w h start → header_of file ≡ Some (record { w = w; h = h; start = start })
 unfolding header_of fields after ending
 found file w h start p =
     let f3 : List ℕ = p.largest ++ (p.white ∷ p.raster) in
@@ -61,34 +63,42 @@ magic-spelled (a ∷ b ∷ l) e = split (eqb a 0x50) (eqb b 0x36) refl refl (rw 
     split true false c d e = absurd (false≢true e)
     split false u c d e = absurd (false≢true e)
 
--- a field on the way to a good header, and what its end comes to
-record Read (at : ℕ) (n : Number) (next : ℕ → ℕ → Header) (good : Header) : Type 0 where
-  value : ℕ
-  count : ℕ
-  is : n ≡ Number.Read value count
-  on : next value (at + count) ≡ good
+-- a field on the way to a header, and what its end comes to
+record Read (at : ℕ) (n : Option Number) (next : ℕ → ℕ → Option Header) (header : Header) : Type 0 where
+  number : Number
+  is : n ≡ Some number
+  on : next number.value (at + number.count) ≡ Some header
 
-after-good : (at : ℕ) (n : Number) (next : ℕ → ℕ → Header) (w h start : ℕ) → after at n next ≡ Header.Good w h start → Read at n next (Header.Good w h start)
+after-good : (at : ℕ) (n : Option Number) (next : ℕ → ℕ → Option Header) (header : Header) → after at n next ≡ Some header → Read at n next header
 unfolding after
-after-good at Number.Bad next w h start e = absurd (let z : ◌≡◌ {A = ℕ} 0 1 = cc in omega arith)
-after-good at (Number.Read value count) next w h start e = record { value = value; count = count; is = refl; on = e }
+after-good at None next header e = cc
+after-good at (Some n) next header e = record { number = n; is = refl; on = e }
 
-record Ended (file : List ℕ) (w h largest at w' h' start : ℕ) : Type 0 where
+record Ended (file : List ℕ) (w h largest at : ℕ) (header : Header) : Type 0 where
   is255 : largest ≡ 255
   is_one : is_white (get_or file at 0) ≡ true
-  width : w ≡ w'
-  height : h ≡ h'
-  begins : at + 1 ≡ start
+  width : w ≡ header.w
+  height : h ≡ header.h
+  begins : at + 1 ≡ header.start
 
-ending-good : (file : List ℕ) (w h largest at w' h' start : ℕ) → ending file w h largest at ≡ Header.Good w' h' start → Ended file w h largest at w' h' start
+ending-good : (file : List ℕ) (w h largest at : ℕ) (header : Header) → ending file w h largest at ≡ Some header → Ended file w h largest at header
 unfolding ending
-ending-good file w h largest at w' h' start e = split (eqb largest 255) (is_white (get_or file at 0)) refl refl e
+ending-good file w h largest at header e = split (eqb largest 255) (is_white (get_or file at 0)) refl refl e
   where
-    split : (t u : Bool) → eqb largest 255 ≡ t → is_white (get_or file at 0) ≡ u → cond (t && u) (Header.Good w h (at + 1)) Header.Bad ≡ Header.Good w' h' start
-        → Ended file w h largest at w' h' start
-    split true true a b e = record { is255 = eqb-true largest 255 a; is_one = b; width = cc; height = cc; begins = cc }
-    split true false a b e = absurd (let z : ◌≡◌ {A = ℕ} 0 1 = cc in omega arith)
-    split false u a b e = absurd (let z : ◌≡◌ {A = ℕ} 0 1 = cc in omega arith)
+    split : (t u : Bool) → eqb largest 255 ≡ t → is_white (get_or file at 0) ≡ u
+        → cond {A = Option Header} (t && u) (Some (record { w = w; h = h; start = at + 1 })) None ≡ Some header
+        → Ended file w h largest at header
+    split true true a b e =
+        let is = same_Some _ _ e in
+        record {
+          is255 = eqb-true largest 255 a;
+          is_one = b;
+          width = ap (λ (r : Header). r.w) is;
+          height = ap (λ (r : Header). r.h) is;
+          begins = ap (λ (r : Header). r.start) is;
+        }
+    split true false a b e = cc
+    split false u a b e = cc
 
 -- the rest of a file from a place on: a piece of it, and the rest after that
 piece : (file : List ℕ) (at count : ℕ) → drop at file ≡ take count (drop at file) ++ drop (at + count) file
@@ -119,8 +129,8 @@ module _ (file : List ℕ) (marked : is_magic file ≡ true) (w h c1 c2 c3 : ℕ
       ended : drop at3 file ≡ get_or file at3 0 ∷ drop (at3 + 1) file
       ended = rw (add-one at3) (drop-cons file at3 0 (white-within file at3 one))
 
-  pieces-spelled : field_of (drop 2 file) ≡ Number.Read w c1 → field_of (drop at1 file) ≡ Number.Read h c2 → field_of (drop at2 file) ≡ Number.Read 255 c3
-      → is_white (get_or file at3 0) ≡ true → P6 WhiteOrComment file w h (at3 + 1)
+  pieces-spelled : field_of (drop 2 file) ≡ Some (record { value = w; count = c1 }) → field_of (drop at1 file) ≡ Some (record { value = h; count = c2 })
+      → field_of (drop at2 file) ≡ Some (record { value = 255; count = c3 }) → is_white (get_or file at3 0) ≡ true → P6 WhiteOrComment file w h (at3 + 1)
   pieces-spelled first second third one = record {
     width = take c1 (drop 2 file);
     height = take c2 (drop at1 file);
@@ -128,61 +138,61 @@ module _ (file : List ℕ) (marked : is_magic file ≡ true) (w h c1 c2 c3 : ℕ
     white = get_or file at3 0;
     raster = drop (at3 + 1) file;
     spelled = pieces one;
-    is_width = field-spelled (drop 2 file) w c1 first;
-    is_height = field-spelled (drop at1 file) h c2 second;
-    is255 = field-spelled (drop at2 file) 255 c3 third;
+    is_width = field-spelled (drop 2 file) (record { value = w; count = c1 }) first;
+    is_height = field-spelled (drop at1 file) (record { value = h; count = c2 }) second;
+    is255 = field-spelled (drop at2 file) (record { value = 255; count = c3 }) third;
     is_one = one;
     begins = omega (arith, white-within file at3 one, length-drop (at3 + 1) file);
   }
 
-fields-spelled : (file : List ℕ) (w h start : ℕ) → is_magic file ≡ true → fields file ≡ Header.Good w h start → P6 WhiteOrComment file w h start
+fields-spelled : (file : List ℕ) (header : Header) → is_magic file ≡ true → fields file ≡ Some header → P6 WhiteOrComment file header.w header.h header.start
 unfolding fields
-fields-spelled file w h start m e =
-    let first = after-good 2 (field_of (drop 2 file)) _ w h start e in
-    let at1 : ℕ = 2 + first.count in
-    let second = after-good at1 (field_of (drop at1 file)) _ w h start first.on in
-    let at2 : ℕ = at1 + second.count in
-    let third = after-good at2 (field_of (drop at2 file)) _ w h start second.on in
-    let at3 : ℕ = at2 + third.count in
-    let end = ending-good file first.value second.value third.value at3 w h start third.on in
-    same first.value w second.value h (at3 + 1) start end.width end.height end.begins
-    (pieces-spelled file m first.value second.value first.count second.count third.count first.is second.is
-    (third.is ∙ ap (λ (v : ℕ). Number.Read v third.count) end.is255) end.is_one)
+fields-spelled file header m e =
+    let first = after-good 2 (field_of (drop 2 file)) _ header e in
+    let at1 : ℕ = 2 + first.number.count in
+    let second = after-good at1 (field_of (drop at1 file)) _ header first.on in
+    let at2 : ℕ = at1 + second.number.count in
+    let third = after-good at2 (field_of (drop at2 file)) _ header second.on in
+    let at3 : ℕ = at2 + third.number.count in
+    let end = ending-good file first.number.value second.number.value third.number.value at3 header third.on in
+    let whole : third.number ≡ record { value = 255; count = third.number.count } = ap (λ (v : ℕ). record { value = v; count = third.number.count }) end.is255 in
+    same first.number.value header.w second.number.value header.h (at3 + 1) header.start end.width end.height end.begins
+    (pieces-spelled file m first.number.value second.number.value first.number.count second.number.count third.number.count first.is second.is
+    (third.is ∙ ap Some whole) end.is_one)
   where
     same : (w w' h h' start start' : ℕ) → w ≡ w' → h ≡ h' → start ≡ start' → P6 WhiteOrComment file w h start → P6 WhiteOrComment file w' h' start'
     same w w' h h' start start' a b c p = rw (← a, ← b, ← c) p
 
-spelled : (file : List ℕ) (w h start : ℕ) → header_of file ≡ Header.Good w h start → P6 WhiteOrComment file w h start
+spelled : (file : List ℕ) (header : Header) → header_of file ≡ Some header → P6 WhiteOrComment file header.w header.h header.start
 unfolding header_of
-spelled file w h start e = split (is_magic file) refl e
+spelled file header e = split (is_magic file) refl e
   where
-    split : (t : Bool) → is_magic file ≡ t → cond t (fields file) Header.Bad ≡ Header.Good w h start → P6 WhiteOrComment file w h start
-    split true m e = fields-spelled file w h start m e
-    split false m e = absurd (let z : ◌≡◌ {A = ℕ} 0 1 = cc in omega arith)
+    split : (t : Bool) → is_magic file ≡ t → cond t (fields file) None ≡ Some header → P6 WhiteOrComment file header.w header.h header.start
+    split true m e = fields-spelled file header m e
+    split false m e = cc
 
 -- a file in which no header is found has none, by any grammar whose headers are found
-none_found : (Blank : List ℕ → Type 0) (file : List ℕ) → ((w h start : ℕ) → P6 Blank file w h start → header_of file ≡ Header.Good w h start)
-    → header_of file ≡ Header.Bad → Tells Blank file Header.Bad
-none_found Blank file all e w h start p =
-    let z : ◌≡◌ {A = Header} Header.Bad (Header.Good w h start) = sym e ∙ all w h start p in
-    absurd (let y : ◌≡◌ {A = ℕ} 0 1 = cc in omega arith)
+none_found : (Blank : List ℕ → Type 0) (file : List ℕ)
+    → ((w h start : ℕ) → P6 Blank file w h start → header_of file ≡ Some (record { w = w; h = h; start = start }))
+    → header_of file ≡ None → Tells Blank file None
+none_found Blank file all e w h start p = none-some _ (sym e ∙ all w h start p)
 
 pub by-grammar : ByGrammar
 by-grammar = record { told = λ file. tells file (header_of file) refl; only = only }
   where
-    tells : (file : List ℕ) (r : Header) → header_of file ≡ r → Tells WhiteOrComment file r
-    tells file (Header.Good w h start) e = spelled file w h start e
-    tells file Header.Bad e = none_found WhiteOrComment file (found file) e
+    tells : (file : List ℕ) (r : Option Header) → header_of file ≡ r → Tells WhiteOrComment file r
+    tells file (Some header) e = spelled file header e
+    tells file None e = none_found WhiteOrComment file (found file) e
 
-    bad : (file : List ℕ) (r : Header) → header_of file ≡ r → Tells WhiteOrComment file Header.Bad → r ≡ Header.Bad
-    bad file (Header.Good w h start) e none = absurd (none w h start (spelled file w h start e))
-    bad file Header.Bad e none = refl
+    bad : (file : List ℕ) (r : Option Header) → header_of file ≡ r → Tells WhiteOrComment file None → r ≡ None
+    bad file (Some header) e none = absurd (none header.w header.h header.start (spelled file header e))
+    bad file None e none = refl
 
-    only : (file : List ℕ) (r : Header) → Tells WhiteOrComment file r → header_of file ≡ r
-    only file (Header.Good w h start) p = found file w h start p
-    only file Header.Bad none = bad file (header_of file) refl none
+    only : (file : List ℕ) (r : Option Header) → Tells WhiteOrComment file r → header_of file ≡ r
+    only file (Some header) p = found file header.w header.h header.start p
+    only file None none = bad file (header_of file) refl none
 
-pub tells-found : (file : List ℕ) (r : Header) → r ≡ header_of file → Tells WhiteOrComment file r
+pub tells-found : (file : List ℕ) (r : Option Header) → r ≡ header_of file → Tells WhiteOrComment file r
 tells-found file r e = rw e (by-grammar.told file)
 
 -- ---- document 01's grammar and document 02's
@@ -244,7 +254,7 @@ white-without-hash l every (WhiteOrComment.comment c) = absurd (first (rw c.spel
     first : {l : List ℕ} → Every no_hash (hash ∷ l) → ⊥
     first (Every.next e every) = false≢true e
 
-kept : (file : List ℕ) (w h start : ℕ) → P6 White file w h start → header_of file ≡ Header.Good w h start
+kept : (file : List ℕ) (w h start : ℕ) → P6 White file w h start → header_of file ≡ Some (record { w = w; h = h; start = start })
 kept file w h start p =
     found file w h start (file-turned White WhiteOrComment (λ b. true) (λ l every b. WhiteOrComment.white b) file w h start (any-bytes (take start file)) p)
 
@@ -252,6 +262,7 @@ pub as_before : AsBefore
 unfolding start_in
 as_before = record { kept = kept; unchanged = λ file every. tells file (header_of file) refl every; whitespace = λ l e. whitespace-plain l (not-true _ e) }
   where
-    tells : (file : List ℕ) (r : Header) → header_of file ≡ r → Every no_hash (take (start_in r) file) → Tells White file r
-    tells file (Header.Good w h start) e every = file-turned WhiteOrComment White no_hash white-without-hash file w h start every (spelled file w h start e)
-    tells file Header.Bad e every = none_found White file (kept file) e
+    tells : (file : List ℕ) (r : Option Header) → header_of file ≡ r → Every no_hash (take (start_in r) file) → Tells White file r
+    tells file (Some header) e every =
+        file-turned WhiteOrComment White no_hash white-without-hash file header.w header.h header.start every (spelled file header e)
+    tells file None e every = none_found White file (kept file) e

@@ -1,5 +1,5 @@
 -- The pieces of the grammar: each is found where it stands, and what is found is such a piece.
-use mathlib.Core.Path.{◌≡◌, refl, sym, ap, ◌∙◌}
+use mathlib.Core.Path.{◌≡◌, refl, sym, ap, subst, ◌∙◌}
 use mathlib.Core.Bool.{Bool, true, false, true≢false}
 use mathlib.Core.List.{List, [], ◌∷◌, ◌++◌, append_assoc}
 use Prim.Native.Nat.{ℕ, ◌≤◌}
@@ -7,6 +7,7 @@ use native.Mathlib.Omega.{arith}
 use lib.ListN.{length, take, drop, length-append}
 use lib.Seq.{length-take-le, take-append_seam, drop-append_seam, take-add}
 use borrow.Author.Tests.{le-leb, ne_eqb}
+use Rattle.std.proofs.Common.{Some}
 use Rattle.text.specs.declared.Number.{Number}
 use Rattle.text.specs.Digits.{is_digit, leading, number_of}
 use Rattle.text.proofs.ReadLaws.{leading-all, leading-none, leading-pass, digit-range, read_ok}
@@ -19,7 +20,7 @@ use Rattle.p6_header.proofs.FieldLaws.{field-read, field-parts}
 
 -- ---- numbers
 
-number-found : {value : ℕ} {bytes : List ℕ} → Spells value bytes → (l : List ℕ) → leading is_digit l ≡ 0 → number_of (bytes ++ l) ≡ Number.Read value (length bytes)
+number-found : {value : ℕ} {bytes : List ℕ} → Spells value bytes → (l : List ℕ) → leading is_digit l ≡ 0 → number_of (bytes ++ l) ≡ Some (record { value = value; count = length bytes })
 unfolding number_of
 number-found {value} {bytes} s l z =
     rw (leads, le-leb 1 (length bytes) s.least, le-leb (length bytes) 9 s.most, take-append_seam bytes l, sym s.is)
@@ -27,11 +28,11 @@ number-found {value} {bytes} s l z =
     leads : leading is_digit (bytes ++ l) ≡ length bytes
     leads = let a = leading-all is_digit bytes l (every-leads is_digit s.digits) in omega arith
 
-pub number_spelled : (l : List ℕ) (value count : ℕ) → number_of l ≡ Number.Read value count → Spells value (take count l)
-number_spelled l value count e =
-    let s = read_ok l value count e in
-    let size = length-take-le count l s.within in
-    record { digits = leads-every is_digit l count (omega arith); least = omega arith; most = omega arith; is = s.is }
+pub number_spelled : (l : List ℕ) (n : Number) → number_of l ≡ Some n → Spells n.value (take n.count l)
+number_spelled l n e =
+    let s = read_ok l n e in
+    let size = length-take-le n.count l s.within in
+    record { digits = leads-every is_digit l n.count (omega arith); least = omega arith; most = omega arith; is = s.is }
 
 -- ---- fields
 
@@ -69,10 +70,10 @@ whitespace-first (Whitespace.more {bytes} {rest} b w) l = rw (append_assoc bytes
 pub field-first : {value : ℕ} {bytes : List ℕ} → Field WhiteOrComment value bytes → (l : List ℕ) → leading is_digit (bytes ++ l) ≡ 0
 field-first f l = rw (f.spelled, append_assoc f.blanks f.number l) (whitespace-first f.whitespace (f.number ++ l))
 
-pub field_found : {value : ℕ} {bytes : List ℕ} → Field WhiteOrComment value bytes → (l : List ℕ) → leading is_digit l ≡ 0 → field_of (bytes ++ l) ≡ Number.Read value (length bytes)
+pub field_found : {value : ℕ} {bytes : List ℕ} → Field WhiteOrComment value bytes → (l : List ℕ) → leading is_digit l ≡ 0 → field_of (bytes ++ l) ≡ Some (record { value = value; count = length bytes })
 field_found {value} {bytes} f l z =
     rw (f.spelled, append_assoc f.blanks f.number l, length-append f.blanks f.number)
-    (sym (field-read (f.blanks ++ rest) (length f.blanks) value (length f.number) (sym white) (whitespace-some f.whitespace)
+    (sym (field-read (f.blanks ++ rest) (length f.blanks) (record { value = value; count = length f.number }) (sym white) (whitespace-some f.whitespace)
     (rw (drop-append_seam f.blanks rest) (number-found f.spells l z))))
   where
     rest : List ℕ
@@ -84,14 +85,14 @@ field_found {value} {bytes} f l z =
     white : whitespace_length (f.blanks ++ rest) ≡ length f.blanks
     white = whitespace-found f.whitespace rest (digit-no-blank rest begins)
 
-pub field-spelled : (l : List ℕ) (value count : ℕ) → field_of l ≡ Number.Read value count → Field WhiteOrComment value (take count l)
-field-spelled l value count e =
-    let n = whitespace_length l in
-    let f = field-parts l value count e in
+pub field-spelled : (l : List ℕ) (n : Number) → field_of l ≡ Some n → Field WhiteOrComment n.value (take n.count l)
+field-spelled l n e =
+    let blanks = whitespace_length l in
+    let f = field-parts l n e in
     record {
-      blanks = take n l;
-      number = take f.digits (drop n l);
-      spelled = ap (λ (k : ℕ). take k l) (sym f.whole) ∙ take-add n f.digits l;
+      blanks = take blanks l;
+      number = take f.digits.count (drop blanks l);
+      spelled = ap (λ (k : ℕ). take k l) (sym f.whole) ∙ take-add blanks f.digits.count l;
       whitespace = whitespace-spelled l f.some;
-      spells = number_spelled (drop n l) value f.digits f.number;
+      spells = subst (λ (v : ℕ). Spells v (take f.digits.count (drop blanks l))) f.same (number_spelled (drop blanks l) f.digits f.number);
     }

@@ -1,6 +1,5 @@
 -- Headers with comments, and what is found in them, computed (proved in proofs/ExampleLaws.antt).
-use Rattle.std.specs.Prelude.{◌≡◌, List, [], ◌∷◌, ◌++◌, ℕ}
-use Rattle.p6_header.specs.declared.Header.{Header}
+use Rattle.std.specs.Prelude.{◌≡◌, Some, None, List, [], ◌∷◌, ◌++◌, ℕ}
 use Rattle.p6_header.specs.P6Grammar.{magic}
 use Rattle.p6_header.specs.P6Header.{header_of}
 
@@ -23,13 +22,13 @@ gain = 35 ∷ 32 ∷ 103 ∷ 97 ∷ 105 ∷ 110 ∷ 32 ∷ 49 ∷ 50 ∷ 48 ∷ 
 
 pub record HeaderExamples : Type 0 where
   -- a line of its own, as capture programs write it
-  pub line : header_of (spelling (lf ++ gain ++ lf) space lf lf) ≡ Header.Good 2 1 22
+  pub line : header_of (spelling (lf ++ gain ++ lf) space lf lf) ≡ Some (record { w = 2; h = 1; start = 22 })
   -- comments alone between the fields, whichever byte ends them
-  pub alone : header_of (spelling (gain ++ cr) (gain ++ lf) (gain ++ lf) lf) ≡ Header.Good 2 1 41
+  pub alone : header_of (spelling (gain ++ cr) (gain ++ lf) (gain ++ lf) lf) ≡ Some (record { w = 2; h = 1; start = 41 })
   -- after 255 there is no comment, and after the one byte of whitespace a `#` belongs to the raster
-  pub after255 : header_of (spelling lf space lf (gain ++ lf)) ≡ Header.Bad
-  pub in_raster : header_of (spelling lf space lf (space ++ gain)) ≡ Header.Good 2 1 11
+  pub after255 : header_of (spelling lf space lf (gain ++ lf)) ≡ None
+  pub in_raster : header_of (spelling lf space lf (space ++ gain)) ≡ Some (record { w = 2; h = 1; start = 11 })
   -- a comment that no byte 10 or 13 ends, though all that a header needs stands in it: `2 1 #255` and a space
-  pub cut_off : header_of (spelling lf space (space ++ (35 ∷ [])) space) ≡ Header.Bad
+  pub cut_off : header_of (spelling lf space (space ++ (35 ∷ [])) space) ≡ None
   -- a comment ends a number: here the width is 2, the height 1 and the largest value 1
-  pub in_number : header_of (spelling lf (gain ++ lf ++ (49 ∷ []) ++ space) lf lf) ≡ Header.Bad
+  pub in_number : header_of (spelling lf (gain ++ lf ++ (49 ∷ []) ++ space) lf lf) ≡ None

@@ -11,9 +11,10 @@ use text::Number;
 
 // What a file's first bytes say: the size, and where the raster begins.
 #[derive(Clone, Copy)]
-pub enum Header {
-    Good { w: u32, h: u32, start: usize },
-    Bad,
+pub struct Header {
+    pub w: u32,
+    pub h: u32,
+    pub start: usize,
 }
 
 // The bytes that every P6 file begins with.
@@ -25,72 +26,52 @@ pub const LARGEST: u32 = 255;
 fn is_magic(file: &[u8]) -> bool
     ensures { result ≡ is_magic file.now }
 {
-    if file.len() < MAGIC.len() {
-        return false;
-    }
-    if file[0] != MAGIC[0] {
-        return false;
-    }
-    file[1] == MAGIC[1]
+    file.starts_with(&MAGIC)
 }
 
 // Whitespace and then a number, at the beginning of some bytes.
-fn read_field(bytes: &[u8]) -> Number
+fn read_field(bytes: &[u8]) -> Option<Number>
     ensures { result ≡ field_of bytes.now }
 {
     let blanks = whitespace_length(bytes);
     if blanks == 0 {
-        return Number::Bad;
+        return None;
     }
-    let Number::Read { value, count } = text::read_number(&bytes[blanks..]) else {
-        return Number::Bad;
-    };
-    Number::Read {
-        value,
-        count: blanks + count,
-    }
+    let number = text::read_number(&bytes[blanks..])?;
+    Some(Number {
+        value: number.value,
+        count: blanks + number.count,
+    })
 }
 
 // The header whose three numbers are read, up to place `at`.
-fn finish(file: &[u8], w: u32, h: u32, largest: u32, at: usize) -> Header
+#[tactic(auto, unfolding(crate::specs::P6Header::ending))]
+fn finish(file: &[u8], w: u32, h: u32, largest: u32, at: usize) -> Option<Header>
     ensures { result ≡ ending file.now w h largest at }
 {
     if largest != LARGEST {
-        return Header::Bad;
+        return None;
     }
-    if file.len() <= at {
-        return Header::Bad;
-    }
-    let last = file[at];
+    let last = *file.get(at)?;
     if !is_white(last) {
-        return Header::Bad;
+        return None;
     }
     let start = at + 1;
-    Header::Good { w, h, start }
+    Some(Header { w, h, start })
 }
 
 // The header of a file, as the grammar has it.
-pub fn parse(file: &[u8]) -> Header
+pub fn parse(file: &[u8]) -> Option<Header>
     ensures { Tells WhiteOrComment file.now result }
 {
     if !is_magic(file) {
-        return Header::Bad;
+        return None;
     }
     let at = MAGIC.len();
-    let Number::Read { value: w, count } = read_field(&file[at..]) else {
-        return Header::Bad;
-    };
-    let at1 = at + count;
-    let Number::Read { value: h, count } = read_field(&file[at1..]) else {
-        return Header::Bad;
-    };
-    let at2 = at1 + count;
-    let Number::Read {
-        value: largest,
-        count,
-    } = read_field(&file[at2..])
-    else {
-        return Header::Bad;
-    };
-    finish(file, w, h, largest, at2 + count)
+    let w = read_field(&file[at..])?;
+    let at1 = at + w.count;
+    let h = read_field(&file[at1..])?;
+    let at2 = at1 + h.count;
+    let largest = read_field(&file[at2..])?;
+    finish(file, w.value, h.value, largest.value, at2 + largest.count)
 }

@@ -1,17 +1,21 @@
 -- Laws of blanks, bytes of whitespace and comments, and of the whitespace that they make one after the other.
-use mathlib.Core.Path.{◌≡◌, refl, sym, ◌∙◌}
+use mathlib.Core.Path.{◌≡◌, refl, sym, ap, ◌∙◌}
 use mathlib.Core.Bool.{Bool, true, false, cond, true≢false}
 use mathlib.Core.Logic.{⊎_elim}
 use mathlib.Core.List.{List, [], ◌∷◌}
 use Prim.Native.Nat.{ℕ, zero, suc, ◌+◌, ◌-◌, ◌≤◌, ◌<◌}
 use native.Mathlib.Omega.{arith}
+use Rattle.std.specs.List.{position_or_len, position, slice_get}
+use Rattle.std.proofs.Common.{Option, Some, None}
+use Rattle.std.proofs.lemmas.Option.{same_Some}
 use lib.Dec.{eqb, ltb, leb}
 use lib.ListN.{length, get_or, take, drop, length-drop, get_or-eq_default}
 use lib.Seq.{take_all}
 use borrow.Author.Tests.{le-leb, leb-true, lt-ltb, le-ltb, ltb-true}
 use Rattle.rules.proofs.SumLaws.{order}
 use Rattle.text.specs.Digits.{leading}
-use Rattle.p6_whitespace.specs.Whitespace.{is_white, hash, in_line}
+use Rattle.text.proofs.ReadLaws.{leading-prefix}
+use Rattle.p6_whitespace.specs.Whitespace.{is_white, hash, ends_line, in_line}
 use Rattle.p6_whitespace.specs.Blanks.{comment_length, blank_length, blanks_length, whitespace_length}
 
 -- the part of a list from a place on, as a slice of the rest's length
@@ -36,6 +40,29 @@ pub comment-cut : (l : List ℕ) → leading in_line l ≡ length l → comment_
 unfolding comment_length
 comment-cut l e = rw (e, le-ltb (length l) (length l) (omega arith))
 
+-- the same by the place of the first byte that ends a line
+pub comment_ends : (l : List ℕ) (n : ℕ) → Some n ≡ position ends_line l → n + 1 ≡ comment_length l
+unfolding comment_length
+comment_ends l n e = rw (leading-prefix in_line l) (split (ltb m (length l)) e)
+  where
+    m : ℕ
+    m = position_or_len ends_line l
+
+    split : (t : Bool) → Some n ≡ cond t (Some m) None → n + 1 ≡ cond t (m + 1) 0
+    split true e = ap (λ (k : ℕ). k + 1) (same_Some _ _ e)
+    split false e = cc
+
+pub comment_stays : (l : List ℕ) → None ≡ position ends_line l → 0 ≡ comment_length l
+unfolding comment_length
+comment_stays l e = rw (leading-prefix in_line l) (split (ltb m (length l)) e)
+  where
+    m : ℕ
+    m = position_or_len ends_line l
+
+    split : (t : Bool) → ◌≡◌ {A = Option ℕ} None (cond t (Some m) None) → 0 ≡ cond t (m + 1) 0
+    split true e = cc
+    split false e = refl
+
 comment-in : (l : List ℕ) → comment_length l ≤ length l
 unfolding comment_length
 comment-in l = split (ltb (leading in_line l) (length l)) refl
@@ -48,6 +75,10 @@ comment-in l = split (ltb (leading in_line l) (length l)) refl
 pub blank-past : (l : List ℕ) → length l ≡ 0 → blank_length l ≡ 0
 unfolding blank_length
 blank-past l e = rw (white-past l 0 (omega arith), get_or-eq_default l 0 {n = 0} (omega arith))
+
+pub blank-none : (l : List ℕ) → None ≡ slice_get l 0 → 0 ≡ blank_length l
+blank-none [] e = sym (blank-past [] refl)
+blank-none (b ∷ l) e = cc
 
 pub blank-in : (l : List ℕ) → blank_length l ≤ length l
 unfolding blank_length
@@ -90,6 +121,16 @@ whitespace-off l e = none (length l)
     none : (m : ℕ) → blanks_length m l ≡ 0
     none zero = refl
     none (suc m) = rw e
+
+-- the blank that is looked for in the rest, as a slice of its length
+pub record BlankAt (l : List ℕ) (n blank : ℕ) : Type 0 where
+  pub is : blank_length (drop n l) ≡ blank
+  pub within : n + blank ≤ length l
+
+pub blank_at : (l : List ℕ) (n blank : ℕ) → n ≤ length l → blank ≡ blank_length (take (length l - n) (drop n l)) → BlankAt l n blank
+blank_at l n blank k e =
+    let is : blank_length (drop n l) ≡ blank = ap blank_length (sym (rest-whole l n)) ∙ sym e in
+    record { is = is; within = omega (arith, blank-in (drop n l), length-drop n l) }
 
 blanks-in : (k : ℕ) (l : List ℕ) → blanks_length k l ≤ length l
 unfolding blanks_length

@@ -12,44 +12,40 @@ const HASH: u8 = b'#';
 pub fn is_white(b: u8) -> bool
     ensures { result ≡ is_white b }
 {
-    b == 9 || (b == 10 || (b == 13 || b == 32))
+    matches!(b, 9 | 10 | 13 | 32)
 }
 
 #[tactic(auto, unfolding(crate::specs::Whitespace::ends_line))]
 fn ends_line(b: u8) -> bool
     ensures { result ≡ ends_line b }
 {
-    b == 10 || b == 13
+    matches!(b, 10 | 13)
 }
 
 // How many bytes a comment takes, the one that ends its line included.
 fn comment_length(bytes: &[u8]) -> usize
     ensures { result ≡ comment_length bytes.now }
 {
-    let mut n: usize = 0;
-    while n < bytes.len() {
-        if ends_line(bytes[n]) {
-            return n + 1;
-        }
-        n += 1;
+    match bytes.iter().position(|b| ends_line(*b)) {
+        Some(n) => n + 1,
+        None => 0, // the file cuts it off
     }
-    0 // the file cuts it off
 }
 
 // How many bytes the first blank takes, a byte of whitespace or a comment; 0 where the bytes begin with none.
 fn blank_length(bytes: &[u8]) -> usize
     ensures { result ≡ blank_length bytes.now }
 {
-    if bytes.len() == 0 {
+    let Some(first) = bytes.first() else {
         return 0;
-    }
-    if is_white(bytes[0]) {
+    };
+    if is_white(*first) {
         return 1;
     }
-    if bytes[0] != HASH {
-        return 0;
+    if *first == HASH {
+        return comment_length(bytes);
     }
-    comment_length(bytes)
+    0
 }
 
 // How many bytes all blanks at the beginning take.
@@ -57,12 +53,11 @@ pub fn whitespace_length(bytes: &[u8]) -> usize
     ensures { result ≡ whitespace_length bytes.now }
 {
     let mut n: usize = 0;
-    while n < bytes.len() {
+    loop {
         let blank = blank_length(&bytes[n..]);
         if blank == 0 {
             return n;
         }
         n += blank;
     }
-    n
 }

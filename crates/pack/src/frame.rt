@@ -24,12 +24,10 @@ pub fn pack_frame(
     ensures frame_at_2 { FrameAt 0 (row_words w) (word_of w (outside_plane lo hi w grey.now)) exclusions.old h exclusions.new }
 {
     let n = row_words(w);
-    let mut y: usize = 0;
-    while y < h {
+    for y in 0..h {
         let from = y * w;
         let to = y * n;
         pack_row(grey, from, w, 0, threshold, thresholds, to);
         pack_row(grey, from, w, lo, hi, exclusions, to);
-        y += 1;
     }
 }

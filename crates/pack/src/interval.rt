@@ -6,18 +6,12 @@ ghost use Rattle.std.specs.Prelude.{◌≡◌, ◌+◌, ◌-◌, min};
 pub fn low_end(threshold: u8, tolerance: u32) -> u8
     ensures { result ≡ threshold - tolerance }
 {
-    if tolerance < threshold as u32 {
-        return threshold - tolerance as u8;
-    }
-    0
+    (threshold as u32).saturating_sub(tolerance) as u8
 }
 
 // The greatest of them.
 pub fn high_end(threshold: u8, tolerance: u32) -> u8
     ensures { result ≡ min 255 (threshold + tolerance) }
 {
-    if tolerance < 255 - threshold as u32 {
-        return threshold + tolerance as u8;
-    }
-    255
+    (threshold as u32).saturating_add(tolerance).min(255) as u8
 }

@@ -2,13 +2,15 @@
 #![tactic(auto)]
 
 use frame::pack_frame;
+use frame_refusals::bitmaps_refusal;
 use interval::{high_end, low_end};
-use rules::Written;
+use rules::Refusal;
 
 pub mod frame;
 pub mod interval;
 pub mod packed_rows;
 
+ghost use Rattle.rules.specs.RefusalNumbers.{coded};
 ghost use Rattle.rules.specs.Calls.{BitmapsCall};
 
 // The threshold and the exclusion bitmap of a grey frame for a threshold and a tolerance.
@@ -20,23 +22,20 @@ pub fn bitmaps(
     grey: &[u8],
     thresholds: &mut [u64],
     exclusions: &mut [u64],
-) -> Written
+) -> Result<(), Refusal>
     ensures { BitmapsCall w h threshold tolerance grey.now
-        thresholds.old thresholds.new exclusions.old exclusions.new result }
+        thresholds.old thresholds.new exclusions.old exclusions.new (coded result) }
 {
-    let n = frame_refusals::bitmaps_refusal(
+    bitmaps_refusal(
         w,
         h,
         tolerance,
         grey.len(),
         thresholds.len(),
         exclusions.len(),
-    );
-    if n != 0 {
-        return Written::Refused(n);
-    }
+    )?;
     let lo = low_end(threshold, tolerance);
     let hi = high_end(threshold, tolerance);
     pack_frame(w, h, threshold, lo, hi, grey, thresholds, exclusions);
-    Written::Done
+    Ok(())
 }

@@ -29,10 +29,8 @@ fn pack_columns(grey: &[u8], from: usize, w: usize, lo: u8, hi: u8, out: &mut [u
     let weights = WEIGHTS;
     let full = w / WORD_BITS;
     let rest = w % WORD_BITS;
-    let mut k: usize = 0;
-    while k < full {
+    for k in 0..full {
         out[to + k] = pack_word(grey, from + k * WORD_BITS, WORD_BITS, lo, hi, &weights);
-        k += 1;
     }
     if rest > 0 {
         out[to + full] = pack_word(grey, from + full * WORD_BITS, rest, lo, hi, &weights);

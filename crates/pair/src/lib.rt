@@ -1,13 +1,13 @@
 // Alignment of a pair of rasters: the two offered calls, which differ in the order that they lend.
 #![tactic(auto)]
 
+ghost use Rattle.rules.specs.RefusalNumbers.{coded};
 ghost use Rattle.rules.specs.Levels.{ward_order, least_move_order};
 ghost use Rattle.rules.specs.Calls.{tolerance_setup, PairCall};
 
 use candidates::places;
 use pair_in_order::pair_in_order;
-use refusals::tolerance_refusal;
-use rules::{Exclusion, Order, Paired, Setup};
+use rules::{Exclusion, Offset, Order, Refusal, Setup};
 
 // The offset that moves the second frame onto the first, and the counts and compared numbers of every
 // level. Among equal counts the least move is preferred.
@@ -23,10 +23,10 @@ pub fn pair(
     compared: &mut [u32],
     grey: &mut [u8],
     words: &mut [u64],
-) -> Paired
+) -> Result<Offset, Refusal>
     ensures { PairCall least_move_order (tolerance_setup w h s tolerance percentile) first.now second.now
         counts.old counts.new compared.old compared.new
-        grey.old grey.new words.old words.new result }
+        grey.old grey.new words.old words.new (coded result) }
 {
     let setup = Setup {
         w,
@@ -36,17 +36,7 @@ pub fn pair(
         exclusion: Exclusion::Tolerance(tolerance),
     };
     let order = places(Order::LeastMove);
-    pair_in_order(
-        setup,
-        tolerance_refusal(tolerance),
-        first,
-        second,
-        counts,
-        compared,
-        grey,
-        words,
-        &order,
-    )
+    pair_in_order(setup, first, second, counts, compared, grey, words, &order)
 }
 
 // The same in Ward's order.
@@ -62,10 +52,10 @@ pub fn pair_ward(
     compared: &mut [u32],
     grey: &mut [u8],
     words: &mut [u64],
-) -> Paired
+) -> Result<Offset, Refusal>
     ensures { PairCall ward_order (tolerance_setup w h s tolerance percentile) first.now second.now
         counts.old counts.new compared.old compared.new
-        grey.old grey.new words.old words.new result }
+        grey.old grey.new words.old words.new (coded result) }
 {
     let setup = Setup {
         w,
@@ -75,15 +65,5 @@ pub fn pair_ward(
         exclusion: Exclusion::Tolerance(tolerance),
     };
     let order = places(Order::Ward);
-    pair_in_order(
-        setup,
-        tolerance_refusal(tolerance),
-        first,
-        second,
-        counts,
-        compared,
-        grey,
-        words,
-        &order,
-    )
+    pair_in_order(setup, first, second, counts, compared, grey, words, &order)
 }

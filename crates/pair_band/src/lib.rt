@@ -1,13 +1,13 @@
 // Alignment of a pair of rasters with a noise band by rank in place of the tolerance.
 #![tactic(auto)]
 
+ghost use Rattle.rules.specs.RefusalNumbers.{coded};
 ghost use Rattle.rules.specs.Levels.{least_move_order};
 ghost use Rattle.rules.specs.Calls.{band_setup, PairCall};
 
 use candidates::places;
 use pair_in_order::pair_in_order;
-use refusals::band_refusal;
-use rules::{Exclusion, Order, Paired, Setup};
+use rules::{Exclusion, Offset, Order, Refusal, Setup};
 
 // The offset that moves the second frame onto the first, and the counts and compared numbers of every
 // level, as `pair` gives them. A level leaves out the grey values from the threshold for percentile - band to
@@ -24,10 +24,10 @@ pub fn pair_band(
     compared: &mut [u32],
     grey: &mut [u8],
     words: &mut [u64],
-) -> Paired
+) -> Result<Offset, Refusal>
     ensures { PairCall least_move_order (band_setup w h s band percentile) first.now second.now
         counts.old counts.new compared.old compared.new
-        grey.old grey.new words.old words.new result }
+        grey.old grey.new words.old words.new (coded result) }
 {
     let setup = Setup {
         w,
@@ -37,15 +37,5 @@ pub fn pair_band(
         exclusion: Exclusion::Band(band),
     };
     let order = places(Order::LeastMove);
-    pair_in_order(
-        setup,
-        band_refusal(band),
-        first,
-        second,
-        counts,
-        compared,
-        grey,
-        words,
-        &order,
-    )
+    pair_in_order(setup, first, second, counts, compared, grey, words, &order)
 }

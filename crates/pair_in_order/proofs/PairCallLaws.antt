@@ -1,22 +1,19 @@
 -- The answer as the call gives it.
+use Rattle.std.specs.Prelude.{Ok, Err}
 use mathlib.Core.Path.{◌≡◌, refl, ap, ◌∙◌}
 use mathlib.Core.List.{List}
 use Prim.Native.Nat.{ℕ, ◌+◌, ◌*◌, ◌≤◌}
-use native.Mathlib.Omega.{arith}
 use lib.ListN.{length, get_or, drop}
 use Rattle.rules.specs.declared.Offset.{Offset}
 use Rattle.rules.specs.declared.Setup.{Setup}
-use Rattle.rules.specs.declared.Paired.{Paired}
 use Rattle.rules.specs.Frames.{frame_of, written_over, SameFrame}
 use Rattle.rules.specs.Greys.{grey_frame}
 use Rattle.rules.specs.Levels.{rule_of, Aligned}
 use Rattle.rules.specs.Buffers.{RowAt}
 use Rattle.rules.specs.Calls.{pair_result, PairLeft}
-use Rattle.rules.specs.Accepted.{PairOk}
 use Rattle.rules.proofs.PairLaws.{pair-ext}
-use Rattle.rules.proofs.RefusalLaws.{buffer-refused}
-use Rattle.rules.proofs.AlignmentLaws.{paired-refused}
-use Rattle.align.specs.Aligns.{Frames, Aligns, aligned_in}
+use Rattle.rules.proofs.RefusalLaws.{buffer-refused, answer-refused}
+use Rattle.align.specs.Aligns.{Aligns, aligned_in}
 use Rattle.rules.proofs.LevelLaws.{counts-length, compared-length}
 use Rattle.align.proofs.WrittenLaws.{row_written}
 
@@ -54,27 +51,12 @@ module _ (preferred : List Offset) (S : Setup) (first second grey grey' counts c
       (compared-length preferred (rule_of S.exclusion) S.percentile S.s S.w S.h (frame_of S.w (drop 0 grey)) (frame_of S.w (drop (S.w * S.h) grey)))
       room aligns.compared_written
 
--- an accepted call gives the recursion what it needs
-pub pair-frames : (S : Setup) (first second counts compared grey words : ℕ) → PairOk S.w S.h S.s S.exclusion S.percentile first second counts compared grey words
-    → Frames 0 (S.w * S.h) S grey
-pair-frames S first second counts compared grey words k = record {
-  wide = k.shape.wide;
-  width = k.shape.size.width;
-  high = k.shape.high;
-  height = k.shape.size.height;
-  halvings = k.shape.halvings;
-  percentiles = k.percentiles;
-  one = omega arith;
-  two = omega arith;
-  room = k.greys;
-}
-
 -- What a refused call leaves, and an accepted one.
 pub refused-left : (n number : ℕ) (result : Aligned) (counts compared grey words : List ℕ) → n ≡ number → (n ≡ 0 → ⊥)
-    → PairLeft number result counts counts compared compared grey grey words words (Paired.Refused n)
+    → PairLeft number result counts counts compared compared grey grey words words (Err n)
 refused-left n number result counts compared grey words e l =
     rw (← e) (record {
-      answered = paired-refused n result.offset l;
+      answered = answer-refused n result.offset l;
       counts_are = buffer-refused n result.counts counts l;
       compared_are = buffer-refused n result.compared compared l;
       memory_kept = λ f. (refl, refl);
@@ -82,6 +64,6 @@ refused-left n number result counts compared grey words e l =
 
 pub accepted-left : (number : ℕ) (result : Aligned) (counts counts' compared compared' grey grey' words words' : List ℕ) (m : Offset) → number ≡ 0
     → m ≡ result.offset → counts' ≡ written_over result.counts counts → compared' ≡ written_over result.compared compared
-    → PairLeft number result counts counts' compared compared' grey grey' words words' (Paired.Moved m)
+    → PairLeft number result counts counts' compared compared' grey grey' words words' (Ok m)
 accepted-left number result counts counts' compared compared' grey grey' words words' m z o c d =
-    rw z (record { answered = ap Paired.Moved o; counts_are = c; compared_are = d; memory_kept = λ f. absurd (f refl) })
+    rw z (record { answered = ap Ok o; counts_are = c; compared_are = d; memory_kept = λ f. absurd (f refl) })

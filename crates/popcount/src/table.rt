@@ -6,9 +6,15 @@ ghost use Rattle.rules.specs.Sums.{sum};
 ghost use Rattle.rules.specs.Bitmaps.{bit};
 ghost use Rattle.popcount.specs.Table.{CountsBits};
 
-// The number of 1 bits of each byte. A call takes it once into a local and lends it down: an index
-// into the constant itself would copy it.
-pub const BIT_COUNTS: [u8; 256] = [
+// The number of 1 bits of each byte, proved to be right. A call makes the table once and lends it down.
+#[derive(Drop)]
+pub struct BitCounts {
+    counts: [u8; 256],
+    ghost counts_bits: { CountsBits counts },
+}
+
+// A table takes it whole, since an index into the constant itself would copy it.
+const COUNTS: [u8; 256] = [
     0, 1, 1, 2, 1, 2, 2, 3, 1, 2, 2, 3, 2, 3, 3, 4, 1, 2, 2, 3, 2, 3, 3, 4, 2, 3, 3, 4, 3, 4, 4, 5,
     1, 2, 2, 3, 2, 3, 3, 4, 2, 3, 3, 4, 3, 4, 4, 5, 2, 3, 3, 4, 3, 4, 4, 5, 3, 4, 4, 5, 4, 5, 5, 6,
     1, 2, 2, 3, 2, 3, 3, 4, 2, 3, 3, 4, 3, 4, 4, 5, 2, 3, 3, 4, 3, 4, 4, 5, 3, 4, 4, 5, 4, 5, 5, 6,
@@ -19,32 +25,29 @@ pub const BIT_COUNTS: [u8; 256] = [
     3, 4, 4, 5, 4, 5, 5, 6, 4, 5, 5, 6, 5, 6, 6, 7, 4, 5, 5, 6, 5, 6, 6, 7, 5, 6, 6, 7, 6, 7, 7, 8,
 ];
 
-// The table, proved to be right.
-pub fn bit_counts() -> [u8; 256]
-    ensures { CountsBits result }
-{
-    BIT_COUNTS
-}
+impl BitCounts {
+    pub fn new() -> Self {
+        BitCounts { counts: COUNTS }
+    }
 
-// Of the lowest byte of a word.
-fn byte_count(v: u64, table: &[u8; 256]) -> u32
-    requires { CountsBits table.now }
-    ensures { (result ≡ sum 8 (bit v)) × (result ≤ 8) }
-{
-    table[(v % 256) as usize] as u32
-}
+    // Of the lowest byte of a word.
+    fn byte_count(&self, v: u64) -> u32
+        ensures { (result ≡ sum 8 (bit v)) × (result ≤ 8) }
+    {
+        self.counts[(v % 256) as usize] as u32
+    }
 
-// Of a whole word.
-pub fn word_count(v: u64, table: &[u8; 256]) -> u32
-    requires { CountsBits table.now }
-    ensures { result ≡ sum word_bits (bit v) }
-{
-    byte_count(v, table)
-        + byte_count(v >> 8, table)
-        + byte_count(v >> 16, table)
-        + byte_count(v >> 24, table)
-        + byte_count(v >> 32, table)
-        + byte_count(v >> 40, table)
-        + byte_count(v >> 48, table)
-        + byte_count(v >> 56, table)
+    // Of a whole word.
+    pub fn word_count(&self, v: u64) -> u32
+        ensures { result ≡ sum word_bits (bit v) }
+    {
+        self.byte_count(v)
+            + self.byte_count(v >> 8)
+            + self.byte_count(v >> 16)
+            + self.byte_count(v >> 24)
+            + self.byte_count(v >> 32)
+            + self.byte_count(v >> 40)
+            + self.byte_count(v >> 48)
+            + self.byte_count(v >> 56)
+    }
 }

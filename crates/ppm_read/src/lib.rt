@@ -4,27 +4,23 @@
 pub mod reading;
 
 ghost use Rattle.std.specs.Prelude.{◌≡◌};
+ghost use Rattle.rules.specs.RefusalNumbers.{coded};
 ghost use Rattle.ppm_read.specs.P6.{size_answer, RasterCall};
 
+use rules::Refusal;
+
 // A frame's width and height.
-#[derive(Clone, Copy)]
+#[derive(Clone, Copy, Debug, PartialEq, Eq)]
 pub struct Size {
     pub w: usize,
     pub h: usize,
-}
-
-// The answer of the reader's companion: the size of the frame that a file holds.
-#[derive(Clone, Copy)]
-pub enum SizeRead {
-    Frame(Size),
-    Refused(u32),
 }
 
 // The raster of a P6 file, as the part of the file's bytes that it is; empty when refused.
 pub fn p6_raster(file: &[u8]) -> &[u8]
     ensures { RasterCall file.now file.entry.ref_ptr result.now result.ref_ptr }
 {
-    if reading::file_refusal(file) != 0 {
+    if reading::file_refusal(file).is_err() {
         return &file[..0];
     }
     let start = reading::raster_start(file);
@@ -32,12 +28,9 @@ pub fn p6_raster(file: &[u8]) -> &[u8]
 }
 
 // The companion: the size of the frame that a P6 file holds.
-pub fn p6_size(file: &[u8]) -> SizeRead
-    ensures { result ≡ size_answer file.now }
+pub fn p6_size(file: &[u8]) -> Result<Size, Refusal>
+    ensures { coded result ≡ size_answer file.now }
 {
-    let n = reading::file_refusal(file);
-    if n != 0 {
-        return SizeRead::Refused(n);
-    }
-    SizeRead::Frame(reading::frame_size(file))
+    reading::file_refusal(file)?;
+    Ok(reading::frame_size(file))
 }

@@ -1,4 +1,6 @@
 -- Laws of the writer: the header's length, and what an accepted call knows.
+use Rattle.rules.specs.Answers.{answer_for}
+use Rattle.std.specs.Prelude.{Err}
 use mathlib.Core.Path.{◌≡◌, refl, sym, ap, ◌∙◌}
 use mathlib.Core.Bool.{false}
 use mathlib.Core.List.{List, [], ◌∷◌, ◌++◌, append_assoc}
@@ -13,9 +15,8 @@ use Rattle.text.proofs.PutLaws.{put-length, put_then}
 use Rattle.rules.specs.Refusals.{◌when◌, ◌or_else◌, bad_size, wrong_length, short, raster_length}
 use Rattle.rules.specs.Accepted.{SizeOk}
 use Rattle.rules.proofs.RefusalLaws.{when-no, or_else-no, length-is, size_ok}
-use Rattle.ppm_write.specs.declared.FileWritten.{FileWritten}
 use Rattle.p6_header.specs.P6Grammar.{magic}
-use Rattle.ppm_write.specs.P6Writes.{header, write_refusal, file_written}
+use Rattle.ppm_write.specs.P6Writes.{header, write_refusal}
 
 pub length-header : (w h : ℕ) → length (header w h) ≡ 2 + length (digits w) + length (digits h) + length (digits 255) + 4
 unfolding header
@@ -91,7 +92,3 @@ write-ok w h raster out e =
       exact = exact;
       room = rw exact (ltb-false out needed (when-no 10 (short needed out) (omega arith) q.1));
     }
-
-pub file-refused : (n k : ℕ) → (n ≡ 0 → ⊥) → FileWritten.Refused n ≡ file_written n k
-file-refused zero k l = absurd (l refl)
-file-refused (suc n) k l = refl

@@ -12,7 +12,7 @@ use Rattle.text.proofs.ReadLaws.{leading-nil}
 use Rattle.text.proofs.DigitLaws.{read-digits}
 use Rattle.rules.specs.Refusals.{raster_length}
 use Rattle.p6_whitespace.specs.Whitespace.{is_white, White, Whitespace}
-use Rattle.p6_header.specs.declared.Header.{Header}
+use Rattle.std.proofs.Common.{Some}
 use Rattle.p6_header.specs.P6Grammar.{magic, Spells, Field}
 use Rattle.p6_header.proofs.PieceLaws.{number_spelled}
 use Rattle.ppm_read.specs.P6.{header_refusal}
@@ -23,7 +23,7 @@ use Rattle.ppm_write.specs.RoundTrip.{EmitsNone, RoundTrip}
 use Rattle.ppm_write.proofs.P6WriteLaws.{WriteOk, write-ok}
 
 digits-spelled : (n : ℕ) → n < 1000000000 → Spells n (digits n)
-digits-spelled n k = rw take-append_seam at (number_spelled (digits n ++ []) n (length (digits n)) (read-digits n [] k (leading-nil _)))
+digits-spelled n k = rw take-append_seam at (number_spelled (digits n ++ []) (record { value = n; count = length (digits n) }) (read-digits n [] k (leading-nil _)))
 
 -- a field as the writer puts it: a byte of whitespace, and digits
 field-written : (b n : ℕ) → is_white b ≡ true → n < 1000000000 → Field White n ((b ∷ []) ++ digits n)
@@ -74,7 +74,7 @@ round_trip w h raster out e = rw written (read.size, read.raster ∙ drop-append
     rest : length file - length (header w h) ≡ raster_length w h
     rest = omega (arith, length-append (header w h) raster, ok.exact)
 
-    none : header_refusal (Header.Good w h (length (header w h))) (length file) ≡ 0
+    none : header_refusal (Some (record { w = w; h = h; start = length (header w h) })) (length file) ≡ 0
     none = rw (ok.good, eq-eqb (length file - length (header w h)) (raster_length w h) rest)
 
     read : Answered file w h (length (header w h))

@@ -1,10 +1,9 @@
 -- P6 files (Netpbm, document "ppm") as they are written, by document 01.
-use Rattle.std.specs.Prelude.{◌≡◌, List, [], ◌∷◌, ◌++◌, ℕ, zero, suc, ◌+◌, length}
+use Rattle.std.specs.Prelude.{◌≡◌, List, [], ◌∷◌, ◌++◌, ℕ, zero, suc, ◌+◌, length, Result, Ok, Err}
 use Rattle.text.specs.Digits.{digits}
 use Rattle.rules.specs.Refusals.{◌when◌, ◌or_else◌, bad_size, wrong_length, short, raster_length}
-use Rattle.rules.specs.Answers.{buffer_after}
+use Rattle.rules.specs.Answers.{buffer_after, answer_for}
 use Rattle.p6_header.specs.P6Grammar.{magic}
-use Rattle.ppm_write.specs.declared.FileWritten.{FileWritten}
 
 -- The writer: "one byte 10 for each whitespace but a 32 between width and height, no leading zeros".
 unfoldable pub header : ℕ → ℕ → List ℕ
@@ -19,18 +18,14 @@ write_refusal w h raster out =
     or_else 9 when wrong_length (raster_length w h) raster
     or_else 10 when short (length (header w h) + raster_length w h) out
 
-abbrev pub file_written : ℕ → ℕ → FileWritten
-file_written zero n = FileWritten.Bytes n
-file_written (suc n) k = FileWritten.Refused (suc n)
-
 -- what the buffer holds after the call
 abbrev pub write_out : ℕ → ℕ → List ℕ → List ℕ → List ℕ
 write_out w h raster out = buffer_after (write_refusal w h (length raster) (length out)) (p6_file w h raster) out
 
 -- what the writer leaves with this refusal number and this file: it "tells the number of bytes written"
-pub record FileLeft (number : ℕ) (file out out' : List ℕ) (r : FileWritten) : Type 0 where
-  pub answered : r ≡ file_written number (length file)
+pub record FileLeft (number : ℕ) (file out out' : List ℕ) (r : Result ℕ ℕ) : Type 0 where
+  pub answered : r ≡ answer_for number (length file)
   pub filled : out' ≡ buffer_after number file out
 
-abbrev pub WriteCall : ℕ → ℕ → List ℕ → List ℕ → List ℕ → FileWritten → Type 0
+abbrev pub WriteCall : ℕ → ℕ → List ℕ → List ℕ → List ℕ → Result ℕ ℕ → Type 0
 WriteCall w h raster out out' r = FileLeft (write_refusal w h (length raster) (length out)) (p6_file w h raster) out out' r

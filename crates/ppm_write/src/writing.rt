@@ -1,12 +1,14 @@
 // P6 headers written: their length, and their bytes put into a lent buffer.
 
 ghost use Rattle.std.specs.Prelude.{◌≡◌, ◌++◌, ◌+◌, ◌≤◌, length};
+ghost use Rattle.rules.specs.RefusalNumbers.{number_in};
 ghost use Rattle.text.specs.Digits.{digits};
 ghost use Rattle.text.specs.Puts.{Put};
 ghost use Rattle.ppm_write.specs.P6Writes.{header, write_refusal};
 
 use p6_header::{LARGEST, MAGIC};
-use refusals::{Faults, NONE, bad_size, lowest};
+use refusals::{Faults, NONE, lowest, size_refusal};
+use rules::Refusal;
 use text::{digit_count, put, put_number};
 
 // Two bytes of the magic, three numbers, and a byte of whitespace before and after each.
@@ -16,12 +18,10 @@ fn header_length(w: u32, h: u32) -> usize
     MAGIC.len() + digit_count(w) + digit_count(h) + digit_count(LARGEST) + 4
 }
 
-pub fn write_refusal(w: usize, h: usize, raster: usize, out: usize) -> u32
-    ensures { result ≡ write_refusal w h raster out }
+pub fn write_refusal(w: usize, h: usize, raster: usize, out: usize) -> Result<(), Refusal>
+    ensures { number_in result ≡ write_refusal w h raster out }
 {
-    if bad_size(w, h) {
-        return 2;
-    }
+    size_refusal(w, h)?;
     let bytes = 3 * (w * h);
     let needed = header_length(w as u32, h as u32) + bytes;
     lowest(Faults {

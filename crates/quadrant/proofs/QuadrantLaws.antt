@@ -2,42 +2,25 @@
 use mathlib.Core.Path.{◌≡◌, sym, subst, ◌∙◌}
 use mathlib.Core.List.{List}
 use Prim.Native.Nat.{ℕ, ◌+◌, ◌*◌, ◌/◌, ◌≤◌}
-use native.Mathlib.Nat.{le_refl, mul_comm, mul-le-mul_right}
-use native.Mathlib.Omega.{arith}
+use native.Mathlib.Nat.{le_refl}
 use lib.ListN.{drop}
 use Rattle.rules.specs.declared.Offset.{Offset}
 use Rattle.rules.specs.declared.Setup.{Setup}
 use Rattle.rules.specs.Frames.{Frame, frame_of, SameFrame}
 use Rattle.rules.specs.Greys.{grey_frame}
 use Rattle.rules.specs.Buffers.{FrameAt}
-use Rattle.rules.specs.Accepted.{SizeOk}
 use Rattle.align.specs.Aligns.{Aligns}
 use Rattle.align.proofs.WrittenLaws.{stands, stays}
 use Rattle.pair_in_order.proofs.PairCallLaws.{pair-offset}
 use Rattle.crop.specs.declared.Crop.{Crop}
 use Rattle.crop.specs.declared.Quadrant.{Quadrant}
-use Rattle.crop.specs.Crops.{part, cropped, Within}
+use Rattle.crop.specs.Crops.{part, cropped}
 use Rattle.crop.specs.Quadrants.{quadrant_crop}
-use Rattle.crop.proofs.CropLaws.{crop-grey, quadrant-inside}
+use Rattle.crop.proofs.CropLaws.{crop-grey}
 use Rattle.quadrant.specs.QuadrantPairs.{quadrant_setup, quadrant_raster, quadrant_offset}
-
--- a quadrant's crop is one that can be converted
-quadrant-within : (w h bytes : ℕ) (q : Quadrant) → SizeOk w h → bytes ≡ 3 * (w * h) → Within (quadrant_crop w h q) w bytes
-quadrant-within w h bytes q size exact =
-    let C = quadrant_crop w h q in
-    let p = quadrant-inside w h q in
-    record {
-      width = size.width;
-      height = let m = size.height in let l = p.1 in omega arith;
-      columns = p.0;
-      lines = let m = mul-le-mul_right {m = C.top + C.h} {n = h} w p.1 in let n = mul_comm w h in omega arith;
-    }
 
 -- What is known of a crop that is a quadrant's.
 module _ (w h : ℕ) (q : Quadrant) (C : Crop) (e : C ≡ quadrant_crop w h q) where
-  pub crop-within : (bytes : ℕ) → SizeOk w h → bytes ≡ 3 * (w * h) → Within C w bytes
-  crop-within bytes size exact = rw e (quadrant-within w h bytes q size exact)
-
   pub crop-room : (to bytes : ℕ) → to + w / 2 * (h / 2) ≤ bytes → to + C.w * C.h ≤ bytes
   crop-room to bytes room = rw e room
 

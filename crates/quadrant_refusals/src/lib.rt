@@ -1,41 +1,45 @@
-// The refusal number of the quadrants call, worked out from sizes, settings and lengths alone.
+// When the quadrants call is refused, worked out from sizes, settings and lengths alone.
 #![tactic(auto)]
 
 ghost use Rattle.std.specs.Prelude.{◌≡◌};
+ghost use Rattle.rules.specs.Calls.{exclusion_refusal};
+ghost use Rattle.rules.specs.RefusalNumbers.{number_in};
 ghost use Rattle.quadrant_refusals.specs.QuadrantRefusals.{quadrants_refusal};
 
-use refusals::{Faults, MAX_HALVINGS, NONE, bad_percentile, bad_size, lowest};
+use refusals::{
+    Faults, MAX_HALVINGS, NONE, bad_percentile, exclusion_refusal, lowest, size_refusal,
+};
+use rules::{Exclusion, Refusal};
 use work_memory::{short_memory, too_small};
 
 // The numbers that the call writes: an offset for each quadrant.
 const NUMBERS: usize = 8;
 
+#[tactic(auto, unfolding(crate::specs::QuadrantRefusals::quadrants_refusal, rules::specs::Refusals::bad_halvings))]
 pub fn quadrants_refusal(
     w: usize,
     h: usize,
     s: u32,
-    excluded: u32,
+    exclusion: Exclusion,
     percentile: u32,
     first: usize,
     second: usize,
     offsets: usize,
     grey: usize,
     words: usize,
-) -> u32
-    ensures { result ≡ quadrants_refusal w h s excluded percentile first second offsets grey words }
+) -> Result<(), Refusal>
+    ensures { number_in result ≡ quadrants_refusal w h s (exclusion_refusal exclusion) percentile first second offsets grey words }
 {
-    if bad_size(w, h) {
-        return 2;
-    }
+    size_refusal(w, h)?;
     if MAX_HALVINGS < s {
-        return 3;
+        return Err(Refusal::Halvings);
     }
     let raster = 3 * (w * h);
     let half_w = w / 2;
     let half_h = h / 2;
     lowest(Faults {
         small: too_small(half_w, half_h, s),
-        excluded,
+        excluded: exclusion_refusal(exclusion),
         percentile: bad_percentile(percentile),
         length: (first != raster) | (second != raster),
         room: offsets < NUMBERS,

@@ -1,4 +1,5 @@
 -- What an accepted call has written, quadrant by quadrant; the pair call on the cropped rasters; and that a quadrant's own pixels suffice.
+use Rattle.std.specs.Prelude.{Result, Ok, Bool}
 use mathlib.Core.Path.{◌≡◌, refl, sym, ap, ◌∙◌}
 use mathlib.Core.List.{List}
 use Prim.Native.Nat.{ℕ, ◌/◌}
@@ -6,11 +7,10 @@ use lib.IntN.{ℤ}
 use lib.ListN.{length}
 use Rattle.rules.specs.declared.Offset.{Offset}
 use Rattle.rules.specs.declared.Setup.{Setup}
-use Rattle.rules.specs.declared.Paired.{Paired}
 use Rattle.rules.specs.Frames.{Frame, SameFrame, written_over}
 use Rattle.rules.specs.Greys.{grey_frame}
 use Rattle.rules.specs.Levels.{rule_of, Aligned}
-use Rattle.rules.specs.Answers.{paired, buffer_after}
+use Rattle.rules.specs.Answers.{buffer_after, answer_for}
 use Rattle.rules.specs.Refusals.{raster_length}
 use Rattle.rules.specs.Calls.{exclusion_refusal, pair_result, pair_number}
 use Rattle.rules.proofs.PairLaws.{pair-ext}
@@ -18,7 +18,6 @@ use Rattle.crop.specs.declared.Quadrant.{Quadrant}
 use Rattle.crop.specs.Crops.{part}
 use Rattle.crop.specs.Quadrants.{quadrant_crop}
 use Rattle.crop.proofs.CropLaws.{crop-grey, crop-length}
-use Rattle.rotation.specs.declared.Rotation.{Rotation}
 use Rattle.quadrant_refusals.proofs.QuadrantRefusalLaws.{pair-accepted}
 use Rattle.quadrant.specs.QuadrantPairs.{quadrant_setup, quadrant_raster, quadrant_offset}
 use Rattle.four_quadrants.specs.FourOffsets.{four_offsets, coordinates}
@@ -36,7 +35,7 @@ read_again order S first second lent Quadrant.LowerLeft = refl
 read_again order S first second lent Quadrant.LowerRight = refl
 
 -- what an accepted call has written for a quadrant
-module _ (order : List Offset) (S : Setup) (first second : List ℕ) (offsets offsets' : List ℤ) (grey grey' words words' : List ℕ) (r : Rotation)
+module _ (order : List Offset) (S : Setup) (first second : List ℕ) (offsets offsets' : List ℤ) (grey grey' words words' : List ℕ) (r : Result Bool ℕ)
     (accepted : quadrants_number S first second offsets grey words ≡ 0) (call : QuadrantsCall order S first second offsets offsets' grey grey' words words' r) where
   pub all-written : offsets' ≡ written_over (coordinates (four_offsets order S first second)) offsets
   all-written = call.offsets_are ∙ ap (λ (n : ℕ). buffer_after n (coordinates (four_offsets order S first second)) offsets) accepted
@@ -56,8 +55,8 @@ cropped-pair order S first second offsets offsets' grey grey' words words' r acc
     (pair-accepted S.w S.h S.s (exclusion_refusal S.exclusion) S.percentile (length first) (length second) (length offsets) (length grey) (length words)
     (length counts) (length compared) (length memory) (length bitmaps) accepted room1 room2 room3 room4) in
     pair.answered
-    ∙ ap (λ (n : ℕ). paired n (quadrant_offset order S first second q)) none
-    ∙ ap Paired.Moved (sym (offset-written order S first second offsets offsets' grey grey' words words' r accepted call q))
+    ∙ ap (λ (n : ℕ). answer_for n (quadrant_offset order S first second q)) none
+    ∙ ap Ok (sym (offset-written order S first second offsets offsets' grey grey' words words' r accepted call q))
 
 -- a quadrant's grey frame is the part of the frame's
 abbrev pub grey_in : Setup → Quadrant → List ℕ → Frame

@@ -1,4 +1,5 @@
 -- Re-exposed frames give the same four offsets and the same answer: a quadrant of a re-exposed frame is that quadrant re-exposed.
+use Rattle.rules.specs.Answers.{answer_for}
 use mathlib.Core.Path.{◌≡◌, refl, sym, ap, ap₂, ◌∙◌}
 use mathlib.Core.List.{List, [], ◌∷◌}
 use Prim.Native.Nat.{ℕ, ◌+◌, ◌/◌, compare}
@@ -18,7 +19,7 @@ use Rattle.crop.specs.declared.Quadrant.{Quadrant}
 use Rattle.crop.specs.Crops.{part}
 use Rattle.crop.specs.Quadrants.{quadrant_crop}
 use Rattle.crop.proofs.CropLaws.{quadrant-inside}
-use Rattle.rotation.specs.Turns.{turned, rotation}
+use Rattle.rotation.specs.Turns.{turned}
 use Rattle.quadrant_refusals.proofs.QuadrantRefusalLaws.{quadrants-ok}
 use Rattle.quadrant.specs.QuadrantPairs.{quadrant_offset}
 use Rattle.four_quadrants.specs.FourOffsets.{four_offsets, coordinates}
@@ -73,7 +74,7 @@ quadrants-alike order S fair first first' second second' offsets out offsets' ou
     let four : four_offsets order S first' second' ≡ four_offsets order S first second = same-four order S fair first first' second second' offsets grey words one two accepted in
     record {
       accepted = accepted';
-      answer = call'.answered ∙ ap₂ rotation (accepted' ∙ sym accepted) (ap turned four) ∙ sym call.answered;
+      answer = call'.answered ∙ ap₂ answer_for (accepted' ∙ sym accepted) (ap turned four) ∙ sym call.answered;
       offsets =
           buffer-part _ 8 (coordinates (four_offsets order S first' second')) offsets' out' accepted' (eight order S first' second') call'.offsets_are
           ∙ ap coordinates four

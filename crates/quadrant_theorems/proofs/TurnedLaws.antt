@@ -1,4 +1,6 @@
 -- "turned" exactly when two of the four offsets written differ by more than 1 on an axis.
+use Rattle.rules.specs.Answers.{answer_for}
+use Rattle.std.specs.Prelude.{Result, Ok}
 use mathlib.Core.Path.{◌≡◌, refl, sym, ap, ap₂, ◌∙◌}
 use mathlib.Core.Bool.{Bool, true, false, ◌||◌, true≢false, false≢true}
 use mathlib.Core.Logic.{◌⊎◌, inl, inr, ⊎_elim}
@@ -13,8 +15,7 @@ use Rattle.rules.proofs.OffsetLaws.{abs_neg}
 use Rattle.rules.proofs.RefusalLaws.{or_no}
 use Rattle.crop.specs.declared.Quadrant.{Quadrant}
 use Rattle.crop.specs.Quadrants.{all_quadrants}
-use Rattle.rotation.specs.declared.Rotation.{Rotation}
-use Rattle.rotation.specs.Turns.{apart, differing, differing_from, turned, rotation}
+use Rattle.rotation.specs.Turns.{apart, differing, differing_from, turned}
 use Rattle.quadrant.specs.QuadrantPairs.{quadrant_offset}
 use Rattle.four_quadrants.specs.FourOffsets.{four_offsets}
 use Rattle.quadrant_theorems.specs.CroppedPairs.{offset_of}
@@ -142,7 +143,7 @@ module _ (f : Quadrant → Offset) where
       first p q = either p q (differing (f p) (f q)) refl
 
 -- What is said of four offsets, by the test t.
-says : (offsets : List ℤ) (r : Rotation) (t : Bool) → turned (four (λ q. offset_of q offsets)) ≡ t → r ≡ rotation 0 t → SaysTurned offsets r
+says : (offsets : List ℤ) (r : Result Bool ℕ) (t : Bool) → turned (four (λ q. offset_of q offsets)) ≡ t → r ≡ answer_for 0 t → SaysTurned offsets r
 says offsets r true e a = record {
   when = λ two. a;
   only = λ z. found;
@@ -153,7 +154,7 @@ says offsets r true e a = record {
     found = let d = some (λ q. offset_of q offsets) e in record { one = d.one; other = d.other; differ = differ (offset_of d.one offsets) (offset_of d.other offsets) d.yes }
 says offsets r false e a = record {
   when = λ two. absurd (not-two two);
-  only = λ z. let n : Rotation.Turned ≡ Rotation.NotTurned = sym z ∙ a in absurd (let y : ◌≡◌ {A = ℕ} 0 1 = cc in omega arith);
+  only = λ z. let n : ◌≡◌ {A = Result Bool ℕ} (Ok true) (Ok false) = sym z ∙ a in absurd (let y : ◌≡◌ {A = ℕ} 0 1 = cc in omega arith);
   else = λ no. a;
 }
   where
@@ -166,7 +167,7 @@ pub turned-exactly : TurnedExactly
 unfolding four_offsets
 turned-exactly order S first second offsets offsets' grey grey' words words' r accepted call =
     says offsets' r (turned (four (λ q. offset_of q offsets'))) refl
-    (call.answered ∙ ap₂ rotation accepted (ap turned (λ i. sym (read Quadrant.UpperLeft) i ∷ sym (read Quadrant.UpperRight) i ∷ sym (read Quadrant.LowerLeft) i ∷ sym (read Quadrant.LowerRight) i ∷ [])))
+    (call.answered ∙ ap₂ answer_for accepted (ap turned (λ i. sym (read Quadrant.UpperLeft) i ∷ sym (read Quadrant.UpperRight) i ∷ sym (read Quadrant.LowerLeft) i ∷ sym (read Quadrant.LowerRight) i ∷ [])))
   where
     read : (q : Quadrant) → offset_of q offsets' ≡ quadrant_offset order S first second q
     read = offset-written order S first second offsets offsets' grey grey' words words' r accepted call

@@ -1,12 +1,10 @@
 -- "A quadrant's offset equals that of the same pixels cropped and aligned as a pair", of what the calls answer.
-use Rattle.std.specs.Prelude.{◌≡◌, List, ℕ, ◌+◌, ◌*◌, ◌/◌, ◌≤◌, ℤ, pos, length, get_or}
+use Rattle.std.specs.Prelude.{◌≡◌, List, ℕ, ◌+◌, ◌*◌, ◌/◌, ◌≤◌, ℤ, pos, length, get_or, Result, Ok, Bool}
 use Rattle.rules.specs.declared.Offset.{Offset}
 use Rattle.rules.specs.declared.Setup.{Setup}
-use Rattle.rules.specs.declared.Paired.{Paired}
 use Rattle.rules.specs.Refusals.{counts_length, grey_needed, words_needed}
 use Rattle.rules.specs.Calls.{PairCall}
 use Rattle.crop.specs.declared.Quadrant.{Quadrant}
-use Rattle.rotation.specs.declared.Rotation.{Rotation}
 use Rattle.quadrant.specs.QuadrantPairs.{quadrant_setup, quadrant_raster}
 use Rattle.quadrants.specs.QuadrantsCalls.{quadrants_number, QuadrantsCall}
 
@@ -26,10 +24,10 @@ offset_of q offsets = record { dx = get_or offsets (2 * place_among_four q) (pos
 -- answers the offset that the quadrants call has written for this quadrant (proved in proofs/CallLaws.antt as `cropped-pair`).
 abbrev pub CroppedPair : Type 0
 CroppedPair =
-    (order : List Offset) (S : Setup) (first second : List ℕ) (offsets offsets' : List ℤ) (grey grey' words words' : List ℕ) (r : Rotation)
+    (order : List Offset) (S : Setup) (first second : List ℕ) (offsets offsets' : List ℤ) (grey grey' words words' : List ℕ) (r : Result Bool ℕ)
     → quadrants_number S first second offsets grey words ≡ 0 → QuadrantsCall order S first second offsets offsets' grey grey' words words' r
-    → (q : Quadrant) (counts counts' compared compared' memory memory' bitmaps bitmaps' : List ℕ) (p : Paired)
+    → (q : Quadrant) (counts counts' compared compared' memory memory' bitmaps bitmaps' : List ℕ) (p : Result Offset ℕ)
     → counts_length S.s ≤ length counts → counts_length S.s ≤ length compared
     → grey_needed S.s (S.w / 2) (S.h / 2) ≤ length memory → words_needed (S.w / 2) (S.h / 2) ≤ length bitmaps
     → PairCall order (quadrant_setup S) (quadrant_raster S q first) (quadrant_raster S q second) counts counts' compared compared' memory memory' bitmaps bitmaps' p
-    → p ≡ Paired.Moved (offset_of q offsets')
+    → p ≡ Ok (offset_of q offsets')

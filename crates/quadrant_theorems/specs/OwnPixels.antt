@@ -1,5 +1,5 @@
 -- A quadrant's offset rests on the quadrant's own pixels: neither another quadrant nor the odd middle column or row has a say, nor any threshold of the whole frame.
-use Rattle.std.specs.Prelude.{◌≡◌, List, ℕ, ◌/◌, ℤ}
+use Rattle.std.specs.Prelude.{◌≡◌, List, ℕ, ◌/◌, ℤ, Result, Bool}
 use Rattle.rules.specs.declared.Offset.{Offset}
 use Rattle.rules.specs.declared.Setup.{Setup}
 use Rattle.rules.specs.Frames.{SameFrame}
@@ -7,7 +7,6 @@ use Rattle.rules.specs.Greys.{grey_frame}
 use Rattle.crop.specs.declared.Quadrant.{Quadrant}
 use Rattle.crop.specs.Crops.{part}
 use Rattle.crop.specs.Quadrants.{quadrant_crop}
-use Rattle.rotation.specs.declared.Rotation.{Rotation}
 use Rattle.quadrants.specs.QuadrantsCalls.{quadrants_number, QuadrantsCall}
 use Rattle.quadrant_theorems.specs.CroppedPairs.{offset_of}
 
@@ -21,7 +20,7 @@ SameQuadrant S q raster raster' =
 abbrev pub OwnPixels : Type 0
 OwnPixels =
     (order : List Offset) (S : Setup) (first first' second second' : List ℕ) (offsets out offsets' out' : List ℤ)
-    (grey grey_after grey' grey_after' words words_after words' words_after' : List ℕ) (r r' : Rotation)
+    (grey grey_after grey' grey_after' words words_after words' words_after' : List ℕ) (r r' : Result Bool ℕ)
     → quadrants_number S first second offsets grey words ≡ 0 → QuadrantsCall order S first second offsets out grey grey_after words words_after r
     → quadrants_number S first' second' offsets' grey' words' ≡ 0 → QuadrantsCall order S first' second' offsets' out' grey' grey_after' words' words_after' r'
     → (q : Quadrant) → SameQuadrant S q first first' → SameQuadrant S q second second'

@@ -1,4 +1,5 @@
 -- The offsets of a series whose pairs all stay, and of one whose pairs all go to the corner; and when they do, by the counts.
+use Rattle.std.specs.Prelude.{Result, ⊤}
 use mathlib.Core.Path.{◌≡◌, refl, sym, ap, ap₂, subst, ◌∙◌}
 use mathlib.Core.Bool.{Bool, true, false, cond}
 use mathlib.Core.List.{List}
@@ -13,7 +14,6 @@ use Rattle.rules.specs.declared.Offset.{Offset}
 use Rattle.rules.specs.Planes.{distance}
 use Rattle.rules.specs.Levels.{still, added, arranged, Arrangement, rule_of, Aligned, pair}
 use Rattle.rules.specs.Series.{Settings, grey_of, pair_of, sum_from, opposite, frame_offset, joined, answer_of, answer_by, series_answer}
-use Rattle.rules.specs.declared.Written.{Written}
 use Rattle.rules.specs.Calls.{series_number, SeriesCall}
 use Rattle.rules.specs.BlankSky.{Equal}
 use Rattle.rules.proofs.OffsetLaws.{abs_neg, offset_at}
@@ -137,7 +137,7 @@ module _ (places : List ℕ) (fits : Arrangement places) (S : Settings) (F : Lis
 
 -- ---- an accepted call
 
-module _ (preferred : List Offset) (S : Settings) (F : List ℕ) (offsets offsets' : List ℤ) (counts counts' compared compared' grey grey' words words' : List ℕ) (r : Written)
+module _ (preferred : List Offset) (S : Settings) (F : List ℕ) (offsets offsets' : List ℤ) (counts counts' compared compared' grey grey' words words' : List ℕ) (r : Result ⊤ ℕ)
     (z : series_number S F offsets counts compared grey words ≡ 0) (call : SeriesCall preferred S F offsets offsets' counts counts' compared compared' grey grey' words words' r) where
   reference-ok : S.reference < S.frames
   reference-ok =

@@ -1,7 +1,6 @@
 -- Blank sky in a whole series (document 02, Paper 1): where the nine counts of each level of each pair are equal, by the least move every frame has the offset (0,0). In Ward's
 -- order each frame is as far from the reference as the bound of demand 3 allows.
-use Rattle.std.specs.Prelude.{◌≡◌, List, ℕ, suc, ◌+◌, ◌*◌, ◌-◌, ◌^◌, ◌<◌, ℤ, pos, nat_abs, get_or, take}
-use Rattle.rules.specs.declared.Written.{Written}
+use Rattle.std.specs.Prelude.{◌≡◌, List, ℕ, suc, ◌+◌, ◌*◌, ◌-◌, ◌^◌, ◌<◌, ℤ, pos, nat_abs, get_or, take, Result, ⊤}
 use Rattle.rules.specs.Planes.{distance}
 use Rattle.rules.specs.Levels.{still, ward_order, least_move_order}
 use Rattle.rules.specs.Series.{Settings, offset_list}
@@ -24,9 +23,9 @@ levels_of S = (S.frames - 1) * (S.halvings + 1)
 -- What a series call that was accepted has written into its offsets where the counts that it has written are equal, for any rasters and settings (proved in
 -- proofs/BlankSeriesLaws.antt as `blank-series`).
 pub record BlankSeries : Type 0 where
-  pub least_move : (S : Settings) (F : List ℕ) (offsets offsets' : List ℤ) (counts counts' compared compared' grey grey' words words' : List ℕ) (r : Written)
+  pub least_move : (S : Settings) (F : List ℕ) (offsets offsets' : List ℤ) (counts counts' compared compared' grey grey' words words' : List ℕ) (r : Result ⊤ ℕ)
       → series_number S F offsets counts compared grey words ≡ 0 → SeriesCall least_move_order S F offsets offsets' counts counts' compared compared' grey grey' words words' r
       → Equal (levels_of S) counts' → Unmoved S (take (2 * S.frames) offsets')
-  pub ward : (S : Settings) (F : List ℕ) (offsets offsets' : List ℤ) (counts counts' compared compared' grey grey' words words' : List ℕ) (r : Written)
+  pub ward : (S : Settings) (F : List ℕ) (offsets offsets' : List ℤ) (counts counts' compared compared' grey grey' words words' : List ℕ) (r : Result ⊤ ℕ)
       → series_number S F offsets counts compared grey words ≡ 0 → SeriesCall ward_order S F offsets offsets' counts counts' compared compared' grey grey' words words' r
       → Equal (levels_of S) counts' → Reached S (take (2 * S.frames) offsets')

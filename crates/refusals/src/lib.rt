@@ -1,10 +1,15 @@
-// The order of the refusal numbers, and tests that several calls share. A call's number is worked
+// The order of the refusals, and tests that several calls share. Whether a call is refused is worked
 // out before it writes anything, from sizes, settings and lengths alone, but for a file's header (1) and
-// a common area's offsets (12, 13): the lowest that applies, 0 where none does.
+// a common area's offsets (12, 13): of those that apply, the one with the lowest number.
 #![tactic(auto)]
 
-ghost use Rattle.std.specs.Prelude.{◌≡◌};
+ghost use Rattle.std.specs.Prelude.{◌≡◌, OnOk};
+ghost use Rattle.rules.specs.Accepted.{SizeOk};
+ghost use Rattle.rules.specs.Calls.{exclusion_refusal};
+ghost use Rattle.rules.specs.RefusalNumbers.{number_in};
 ghost use Rattle.rules.specs.Refusals.{◌when◌, ◌or_else◌, bad_size, bad_frames, bad_percentile, tolerance_refusal, band_refusal};
+
+use rules::{Exclusion, Refusal};
 
 pub const MAX_SIDE: usize = 4096;
 
@@ -21,7 +26,7 @@ pub const MAX_FRAMES: usize = 16;
 #[derive(Clone, Copy)]
 pub struct Faults {
     pub small: bool, // 4: a side is too short for the halvings
-    pub excluded: u32, // the number that refuses the exclusion setting, in the place of 5; 0 where none does
+    pub excluded: Result<(), Refusal>, // what refuses the exclusion setting, in the place of 5
     pub frames: bool, // 6: the number of frames
     pub reference: bool, // 7: the reference is no frame
     pub percentile: bool, // 8: a percentile, or how many there are
@@ -34,7 +39,7 @@ pub struct Faults {
 
 pub const NONE: Faults = Faults {
     small: false,
-    excluded: 0,
+    excluded: Ok(()),
     frames: false,
     reference: false,
     percentile: false,
@@ -46,9 +51,9 @@ pub const NONE: Faults = Faults {
 };
 
 // The order of the refusals.
-pub fn lowest(f: Faults) -> u32
-    ensures { result ≡ 4 when f.small
-        or_else f.excluded
+pub fn lowest(f: Faults) -> Result<(), Refusal>
+    ensures { number_in result ≡ 4 when f.small
+        or_else number_in f.excluded
         or_else 6 when f.frames
         or_else 7 when f.reference
         or_else 8 when f.percentile
@@ -59,71 +64,95 @@ pub fn lowest(f: Faults) -> u32
         or_else 14 when f.row }
 {
     if f.small {
-        return 4;
+        return Err(Refusal::Small);
     }
-    if f.excluded != 0 {
-        return f.excluded;
-    }
+    f.excluded?;
     if f.frames {
-        return 6;
+        return Err(Refusal::Frames);
     }
     if f.reference {
-        return 7;
+        return Err(Refusal::Reference);
     }
     if f.percentile {
-        return 8;
+        return Err(Refusal::Percentile);
     }
     if f.length {
-        return 9;
+        return Err(Refusal::Length);
     }
     if f.room {
-        return 10;
+        return Err(Refusal::Room);
     }
     if f.memory {
-        return 11;
+        return Err(Refusal::Memory);
     }
     if f.offset {
-        return 12;
+        return Err(Refusal::Offset);
     }
     if f.row {
-        return 14;
+        return Err(Refusal::Row);
     }
-    0
+    Ok(())
 }
 
+#[tactic(auto, unfolding(rules::specs::Refusals::bad_size, rules::specs::Refusals::bad_side))]
 pub fn bad_size(w: usize, h: usize) -> bool
     ensures { result ≡ bad_size w h }
 {
-    (w == 0) | (MAX_SIDE < w) | ((h == 0) | (MAX_SIDE < h))
+    w == 0 || MAX_SIDE < w || (h == 0 || MAX_SIDE < h)
 }
 
+// 2. What is accepted keeps the products of sizes from overflowing.
+pub fn size_refusal(w: usize, h: usize) -> Result<(), Refusal>
+    ensures number { number_in result ≡ 2 when bad_size w h }
+    ensures known { OnOk result (SizeOk w h) }
+{
+    if bad_size(w, h) {
+        return Err(Refusal::Size);
+    }
+    Ok(())
+}
+
+#[tactic(auto, unfolding(rules::specs::Refusals::bad_frames))]
 pub fn bad_frames(n: usize) -> bool
     ensures { result ≡ bad_frames n }
 {
-    (n == 0) | (MAX_FRAMES < n)
+    n == 0 || MAX_FRAMES < n
 }
 
+#[tactic(auto, unfolding(rules::specs::Refusals::bad_percentile))]
 pub fn bad_percentile(percentile: u32) -> bool
     ensures { result ≡ bad_percentile percentile }
 {
-    !((percentile == 17) | ((percentile == 50) | (percentile == 83)))
+    !matches!(percentile, 17 | 50 | 83)
 }
 
-pub fn tolerance_refusal(tolerance: u32) -> u32
-    ensures { result ≡ tolerance_refusal tolerance }
+#[tactic(auto, unfolding(rules::specs::Refusals::bad_tolerance))]
+pub fn tolerance_refusal(tolerance: u32) -> Result<(), Refusal>
+    ensures { number_in result ≡ tolerance_refusal tolerance }
 {
     if MAX_TOLERANCE < tolerance {
-        return 5;
+        return Err(Refusal::Tolerance);
     }
-    0
+    Ok(())
 }
 
 // In the place of 5.
-pub fn band_refusal(band: u32) -> u32
-    ensures { result ≡ band_refusal band }
+#[tactic(auto, unfolding(rules::specs::Refusals::bad_band))]
+pub fn band_refusal(band: u32) -> Result<(), Refusal>
+    ensures { number_in result ≡ band_refusal band }
 {
     if MAX_BAND < band {
-        return 15;
+        return Err(Refusal::Band);
     }
-    0
+    Ok(())
+}
+
+// What refuses a setting of either kind.
+pub fn exclusion_refusal(exclusion: Exclusion) -> Result<(), Refusal>
+    ensures { number_in result ≡ exclusion_refusal exclusion }
+{
+    match exclusion {
+        Exclusion::Tolerance(tolerance) => tolerance_refusal(tolerance),
+        Exclusion::Band(band) => band_refusal(band),
+    }
 }

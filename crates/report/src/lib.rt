@@ -5,7 +5,7 @@ ghost use Rattle.std.specs.Prelude.{◌≡◌};
 ghost use Rattle.report.specs.Output.{as_read, BracketCall};
 
 use files_text::{GREY_LENT, OUTPUT_LENT, WORDS_LENT, put_files};
-use settings_line::{Settings, settings_of};
+use settings_line::settings_of;
 
 // The most bytes of a file that counts.
 pub const MAX_FILE: usize = 65536;
@@ -32,18 +32,13 @@ pub fn report(
     ensures { BracketCall input.now first.now second.now grey.old grey.new
         words.old words.new out.old out.new result }
 {
-    let Settings::Given {
-        s,
-        tolerance,
-        percentile,
-    } = settings_of(input)
-    else {
+    let Some(settings) = settings_of(input) else {
         return text::put(out, 0, b"settings\n");
     };
     put_files(
-        s,
-        tolerance,
-        percentile,
+        settings.s,
+        settings.tolerance,
+        settings.percentile,
         as_read(first),
         as_read(second),
         grey,

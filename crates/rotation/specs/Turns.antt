@@ -1,7 +1,6 @@
 -- When offsets tell of a turn (document 02, Paper 4), and the answer of the quadrants call.
-use Rattle.std.specs.Prelude.{Bool, true, false, ◌||◌, List, [], ◌∷◌, ℕ, zero, suc, ltb, ℤ, nat_abs, ◌-ℤ◌}
+use Rattle.std.specs.Prelude.{Bool, true, false, ◌||◌, List, [], ◌∷◌, ℕ, zero, suc, ltb, ℤ, nat_abs, ◌-ℤ◌, Result, Ok, Err}
 use Rattle.rules.specs.declared.Offset.{Offset}
-use Rattle.rotation.specs.declared.Rotation.{Rotation}
 
 -- two numbers "differ by more than 1"
 unfoldable pub apart : ℤ → ℤ → Bool
@@ -20,9 +19,3 @@ differing_from m (n ∷ ns) = differing m n || differing_from m ns
 unfoldable pub turned : List Offset → Bool
 turned [] = false
 turned (m ∷ ms) = differing_from m ms || turned ms
-
--- the call's answer for a refusal number, 0 where none applies
-abbrev pub rotation : ℕ → Bool → Rotation
-rotation zero true = Rotation.Turned
-rotation zero false = Rotation.NotTurned
-rotation (suc n) t = Rotation.Refused (suc n)

@@ -8,20 +8,11 @@ ghost use Rattle.rotation.specs.Turns.{apart, differing, turned};
 
 use rules::Offset;
 
-// The answer of the quadrants call.
-#[derive(Clone, Copy)]
-pub enum Rotation {
-    Turned,
-    NotTurned,
-    Refused(u32),
-}
-
 fn apart(a: i32, b: i32) -> bool
     requires { (nat_abs a ≤ max_offset) × (nat_abs b ≤ max_offset) }
     ensures { result ≡ apart a b }
 {
-    let d = a - b;
-    (d < -1) | (1 < d)
+    1 < a.abs_diff(b)
 }
 
 fn differing(a: Offset, b: Offset) -> bool

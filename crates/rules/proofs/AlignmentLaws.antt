@@ -8,8 +8,6 @@ use native.Mathlib.Omega.{arith}
 use lib.Dec.{ltb, eqb}
 use lib.ListN.{length, get_or}
 use borrow.Author.Tests.{ltb-true, ltb-false, eqb-false, not-false}
-use Rattle.rules.specs.declared.Offset.{Offset}
-use Rattle.rules.specs.declared.Paired.{Paired}
 use Rattle.rules.specs.declared.Exclusion.{Exclusion}
 use Rattle.rules.specs.Limits.{max_band, max_halvings, max_frames}
 use Rattle.rules.specs.Refusals.{◌when◌, ◌or_else◌, shape_refusal, bad_size, bad_halvings, too_small, bad_band, bad_frames, bad_reference, bad_percentile, some_bad_percentile, bad_percentiles}
@@ -17,7 +15,6 @@ use Rattle.rules.specs.Refusals.{wrong_length, short, raster_length, counts_leng
 use Rattle.rules.specs.Accepted.{ShapeOk, PercentileOk, PairOk, FramesOk, SeriesOk}
 use Rattle.rules.specs.Levels.{band_in}
 use Rattle.rules.specs.Calls.{exclusion_refusal}
-use Rattle.rules.specs.Answers.{paired}
 use Rattle.rules.proofs.RefusalLaws.{when-no, or_else-no, or_no, size_ok, length-is, length-no, percentile-ok}
 
 -- A number of three conditions that is 0, and the rest.
@@ -182,8 +179,3 @@ series-ok w h s exclusion n r ps rasters offsets counts compared grey words e =
       greys = m.0;
       bitmaps = m.1;
     }
-
--- a refused pair's answer is its number
-pub paired-refused : (n : ℕ) (m : Offset) → (n ≡ 0 → ⊥) → Paired.Refused n ≡ paired n m
-paired-refused zero m l = absurd (l refl)
-paired-refused (suc n) m l = refl

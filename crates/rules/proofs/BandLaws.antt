@@ -4,18 +4,14 @@ use mathlib.Core.Logic.{⊎_elim}
 use mathlib.Core.List.{List}
 use Prim.Native.Nat.{ℕ, ◌+◌, ◌-◌, ◌≤◌, ◌<◌, min, max}
 use native.Mathlib.Omega.{arith}
-use lib.Dec.{leb, ltb}
-use lib.IntN.{ℤ}
 use borrow.Author.Tests.{le-leb, lt-leb, lt-ltb, le-ltb}
 use Rattle.rules.specs.declared.Offset.{Offset}
-use Rattle.rules.specs.declared.Written.{Written}
-use Rattle.rules.specs.declared.Paired.{Paired}
 use Rattle.rules.specs.Planes.{distance, exclusion_bit, band_bit}
 use Rattle.rules.specs.Levels.{ExclusionRule, by_tolerance, by_band, Aligned, pair}
-use Rattle.rules.specs.Refusals.{bad_tolerance, bad_band, pair_refusal, series_refusal}
+use Rattle.rules.specs.Refusals.{bad_tolerance, bad_band}
 use Rattle.rules.specs.Greys.{grey_frame}
 use Rattle.rules.specs.Series.{Answer, grey_of, answer_by, series_answer}
-use Rattle.rules.specs.Calls.{tolerance_setup, band_setup, pair_number, pair_result, PairLeft, PairCall, tolerance_settings, band_settings, series_number, SeriesLeft, SeriesCall}
+use Rattle.rules.specs.Calls.{tolerance_setup, band_setup, pair_number, pair_result, PairLeft, tolerance_settings, band_settings, series_number, SeriesLeft}
 use Rattle.rules.specs.Bands.{BandZero}
 use Rattle.rules.proofs.SumLaws.{order}
 

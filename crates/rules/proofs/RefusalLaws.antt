@@ -1,4 +1,5 @@
 -- Laws of refusal numbers: what an accepted call knows of its sizes, and the answers of a refused one.
+use Rattle.std.specs.Prelude.{Result, Ok, Err, is_err}
 use mathlib.Core.Path.{◌≡◌, refl, sym, ap, ◌∙◌}
 use mathlib.Core.Bool.{Bool, true, false, ◌||◌, true≢false}
 use mathlib.Core.List.{List}
@@ -9,15 +10,15 @@ use lib.Dec.{ltb, eqb}
 use lib.ListN.{length, get_or, take, drop, get_or-append}
 use lib.Seq.{take_at}
 use borrow.Author.Tests.{ltb-false, eqb-false, eqb-true, not-false}
-use Rattle.rules.specs.declared.Written.{Written}
-use Rattle.rules.specs.declared.Counted.{Counted}
-use Rattle.rules.specs.declared.Thresholded.{Thresholded}
 use Rattle.rules.specs.Limits.{max_side, max_tolerance}
 use Rattle.rules.specs.Bitmaps.{row_words}
 use Rattle.rules.specs.Refusals.{◌when◌, ◌or_else◌, bad_side, bad_size, unhalvable, bad_tolerance, bad_percentile, wrong_length, short, raster_length, grey_length, bitmap_length}
 use Rattle.rules.specs.Refusals.{grey_refusal, halve_refusal, threshold_refusal, bitmaps_refusal, shift_refusal, total_refusal, difference_refusal}
 use Rattle.rules.specs.Accepted.{SizeOk, GreyOk, HalveOk, ThresholdOk, BitmapsOk, ShiftOk, TotalOk, DifferenceOk}
-use Rattle.rules.specs.Answers.{written, counted, thresholded, buffer_after}
+use Rattle.rules.specs.declared.Refusal.{Refusal}
+use Rattle.rules.specs.RefusalNumbers.{number_of, number_in}
+use Rattle.rules.specs.Answers.{answer_for, buffer_after}
+use Rattle.rules.specs.Calls.{Fills}
 
 -- A number that is not given: its condition does not apply.
 pub when-no : (n : ℕ) (c : Bool) → 0 < n → n when c ≡ 0 → c ≡ false
@@ -207,21 +208,53 @@ difference-ok w h threshold1 exclusion1 threshold2 exclusion2 e =
     }
 
 -- A refused call: its answer is its number, and a lent buffer holds what it held.
-pub written-refused : (n : ℕ) → (n ≡ 0 → ⊥) → Written.Refused n ≡ written n
-written-refused zero l = absurd (l refl)
-written-refused (suc n) l = refl
-
-pub counted-refused : (n v : ℕ) → (n ≡ 0 → ⊥) → Counted.Refused n ≡ counted n v
-counted-refused zero v l = absurd (l refl)
-counted-refused (suc n) v l = refl
-
-pub thresholded-refused : (n v : ℕ) → (n ≡ 0 → ⊥) → Thresholded.Refused n ≡ thresholded n v
-thresholded-refused zero v l = absurd (l refl)
-thresholded-refused (suc n) v l = refl
+pub answer-refused : {A : Type 0} (n : ℕ) (v : A) → (n ≡ 0 → ⊥) → Err n ≡ answer_for n v
+answer-refused zero v l = absurd (l refl)
+answer-refused (suc n) v l = refl
 
 pub buffer-refused : {A : Type 0} (n : ℕ) (out before : List A) → (n ≡ 0 → ⊥) → before ≡ buffer_after n out before
 buffer-refused zero out before l = absurd (l refl)
 buffer-refused (suc n) out before l = refl
+
+-- The same by the refusal that the number stands for.
+pub number-nonzero : (e : Refusal) → number_of e ≡ 0 → ⊥
+number-nonzero Refusal.Header l = absurd (omega arith)
+number-nonzero Refusal.Size l = absurd (omega arith)
+number-nonzero Refusal.Halvings l = absurd (omega arith)
+number-nonzero Refusal.Small l = absurd (omega arith)
+number-nonzero Refusal.Tolerance l = absurd (omega arith)
+number-nonzero Refusal.Frames l = absurd (omega arith)
+number-nonzero Refusal.Reference l = absurd (omega arith)
+number-nonzero Refusal.Percentile l = absurd (omega arith)
+number-nonzero Refusal.Length l = absurd (omega arith)
+number-nonzero Refusal.Room l = absurd (omega arith)
+number-nonzero Refusal.Memory l = absurd (omega arith)
+number-nonzero Refusal.Offset l = absurd (omega arith)
+number-nonzero Refusal.Apart l = absurd (omega arith)
+number-nonzero Refusal.Row l = absurd (omega arith)
+number-nonzero Refusal.Band l = absurd (omega arith)
+number-nonzero Refusal.Held l = absurd (omega arith)
+
+-- Whether an answer is a refusal, by its number.
+pub err-number : {A : Type 0} (r : Result A Refusal) → is_err r ≡ true → number_in r ≡ 0 → ⊥
+err-number (Ok v) e z = true≢false (sym e)
+err-number (Err refusal) e z = number-nonzero refusal z
+
+pub ok-number : {A : Type 0} (r : Result A Refusal) → is_err r ≡ false → number_in r ≡ 0
+ok-number (Ok v) e = refl
+ok-number (Err refusal) e = absurd (true≢false e)
+
+pub refused-number : (e : Refusal) (n : ℕ) → number_of e ≡ n → n ≡ 0 → ⊥
+refused-number e n is z = number-nonzero e (is ∙ z)
+
+pub refused-answer : {A : Type 0} (e : Refusal) (n : ℕ) (v : A) → number_of e ≡ n → Err (number_of e) ≡ answer_for n v
+refused-answer e n v is = rw is (answer-refused n v (refused-number e n is))
+
+pub refused-buffer : {A : Type 0} (e : Refusal) (n : ℕ) (out before : List A) → number_of e ≡ n → before ≡ buffer_after n out before
+refused-buffer e n out before is = buffer-refused n out before (refused-number e n is)
+
+pub refused-fills : (e : Refusal) (n : ℕ) (out before : List ℕ) → number_of e ≡ n → Fills n out before before (Err (number_of e))
+refused-fills e n out before is = record { answered = refused-answer e n tt is; filled = refused-buffer e n out before is }
 
 -- An accepted call: a lent buffer begins with what was written.
 pub buffer-part : {A : Type 0} (number n : ℕ) (out before after : List A) → number ≡ 0 → length out ≡ n → after ≡ buffer_after number out before → take n after ≡ out

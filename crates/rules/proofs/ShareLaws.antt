@@ -1,4 +1,5 @@
 -- A count is at most its compared number, and that at most the pixels of the overlap: at one move, and in the lists that the pair and series calls write.
+use Rattle.std.specs.Prelude.{Ok}
 use mathlib.Core.Path.{◌≡◌, ap, ap₂, ◌∙◌}
 use mathlib.Core.Bool.{Bool, true, false, ◌&&◌}
 use mathlib.Core.List.{List, [], ◌∷◌, ◌++◌, map}
@@ -11,7 +12,6 @@ use lib.ListN.{length, get_or}
 use borrow.Author.Tests.{lt-ltb, le-ltb}
 use Rattle.rules.specs.declared.Offset.{Offset}
 use Rattle.rules.specs.declared.Tally.{Tally}
-use Rattle.rules.specs.declared.Tallied.{Tallied}
 use Rattle.rules.specs.Sums.{gate, one_if, sum, row_sum, sum_pixels}
 use Rattle.rules.specs.Frames.{Frame}
 use Rattle.rules.specs.Greys.{grey_frame, halved}
@@ -19,7 +19,7 @@ use Rattle.rules.specs.Planes.{within}
 use Rattle.rules.specs.Differences.{Planes, differ, keep, with_partner, difference, compared, overlap}
 use Rattle.rules.specs.Levels.{still, added, ward_order, ExclusionRule, rule_of, level, count_at, compared_at, pair}
 use Rattle.rules.specs.Series.{Settings, grey_of, pair_of, joined, answer_of, answer_by, series_answer}
-use Rattle.rules.specs.Answers.{tallied, buffer_after}
+use Rattle.rules.specs.Answers.{answer_for, buffer_after}
 use Rattle.rules.specs.Calls.{planes_of, tally_of, pair_number, pair_result, series_number}
 use Rattle.rules.specs.Refusals.{difference_refusal}
 use Rattle.rules.specs.Shares.{overlap_at, overlaps, series_overlaps, Shared, Shares}
@@ -123,7 +123,7 @@ difference-le w h dx dy a b =
 
 -- ---- the difference call
 
-tallied-is : (n : ℕ) (t t' : Tally) → tallied n t ≡ Tallied.Tally t' → t' ≡ t
+tallied-is : (n : ℕ) (t t' : Tally) → answer_for n t ≡ Ok t' → t' ≡ t
 tallied-is zero t t' e = cc
 tallied-is (suc n) t t' e = absurd (let z : ◌≡◌ {A = ℕ} 0 1 = cc in omega arith)
 

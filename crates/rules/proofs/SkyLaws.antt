@@ -1,4 +1,5 @@
 -- Where all counts of a level are equal the first candidate of the order is taken; s + 1 such levels add up to 2^(s+1)−1 of its steps.
+use Rattle.std.specs.Prelude.{Result, Ok}
 use mathlib.Core.Path.{◌≡◌, sym, ap, ap₂, ◌∙◌}
 use mathlib.Core.List.{List, [], ◌++◌, map}
 use Prim.Native.Nat.{ℕ, zero, suc, ◌+◌, ◌*◌, ◌-◌, ◌/◌, ◌^◌, ◌≤◌, ◌<◌}
@@ -9,11 +10,10 @@ use lib.Seq.{get_or-append-add}
 use lib.Pow.{pow_pos}
 use Rattle.rules.specs.declared.Offset.{Offset}
 use Rattle.rules.specs.declared.Setup.{Setup}
-use Rattle.rules.specs.declared.Paired.{Paired}
 use Rattle.rules.specs.Frames.{Frame}
 use Rattle.rules.specs.Greys.{grey_frame, halved}
 use Rattle.rules.specs.Levels.{still, added, ward_order, arranged, Arrangement, ExclusionRule, rule_of, chosen, candidate_at, level, count_at, pair}
-use Rattle.rules.specs.Answers.{paired, buffer_after}
+use Rattle.rules.specs.Answers.{answer_for, buffer_after}
 use Rattle.rules.specs.Calls.{pair_number, pair_result, PairCall}
 use Rattle.rules.specs.BlankSky.{Equal, BlankSky}
 use Rattle.rules.proofs.RefusalLaws.{buffer-at}
@@ -130,24 +130,24 @@ written-equal n number out before after z room e equal k j l m =
     let same = rw e at (equal k j l m) in
     sym (buffer-at number out before 0 (9 * k + j) z (omega arith)) ∙ same ∙ buffer-at number out before 0 (9 * k) z (omega arith)
 
-pair-blank : (places : List ℕ) (fits : Arrangement places) (S : Setup) (first second counts counts' compared compared' grey grey' words words' : List ℕ) (r : Paired)
+pair-blank : (places : List ℕ) (fits : Arrangement places) (S : Setup) (first second counts counts' compared compared' grey grey' words words' : List ℕ) (r : Result Offset ℕ)
     → pair_number S first second counts compared grey words ≡ 0 → PairCall (arranged places) S first second counts counts' compared compared' grey grey' words words' r → Equal (S.s + 1) counts'
-    → r ≡ Paired.Moved (times_step (2 ^ suc S.s - 1) (first_step places fits))
+    → r ≡ Ok (times_step (2 ^ suc S.s - 1) (first_step places fits))
 unfolding pair_result
 pair-blank places fits S first second counts counts' compared compared' grey grey' words words' r z call equal =
     let a = grey_frame S.w first in
     let b = grey_frame S.w second in
     let result = pair_result (arranged places) S first second in
     let size : length result.counts ≡ 9 * (S.s + 1) = counts-length (arranged places) (rule_of S.exclusion) S.percentile S.s S.w S.h a b in
-    call.answered ∙ ap (λ (n : ℕ). paired n result.offset) z
-    ∙ ap Paired.Moved (equal-counts places fits (rule_of S.exclusion) S.percentile S.s S.w S.h a b
+    call.answered ∙ ap (λ (n : ℕ). answer_for n result.offset) z
+    ∙ ap Ok (equal-counts places fits (rule_of S.exclusion) S.percentile S.s S.w S.h a b
     (written-equal (S.s + 1) (pair_number S first second counts compared grey words) result.counts counts counts' z (omega arith) call.counts_are equal))
 
 pub blank-sky : BlankSky
 blank-sky = record {
   least_move = λ S first second counts counts' compared compared' grey grey' words words' r z call equal.
       pair-blank least_move_places least-move-arrangement S first second counts counts' compared compared' grey grey' words words' r z call equal
-      ∙ ap Paired.Moved (least_stays (2 ^ suc S.s - 1));
+      ∙ ap Ok (least_stays (2 ^ suc S.s - 1));
   ward = λ S first second counts counts' compared compared' grey grey' words words' r z call equal.
-      pair-blank ward_places ward-arrangement S first second counts counts' compared compared' grey grey' words words' r z call equal ∙ ap Paired.Moved (ward-corner (2 ^ suc S.s - 1));
+      pair-blank ward_places ward-arrangement S first second counts counts' compared compared' grey grey' words words' r z call equal ∙ ap Ok (ward-corner (2 ^ suc S.s - 1));
 }

@@ -1,8 +1,6 @@
 -- The noise band by rank (document 02, Paper 6): what a band of 0 is, and a pair that a band aligns.
-use Rattle.std.specs.Prelude.{◌≡◌, List, [], ◌∷◌, ℕ, ℤ, pos, negsuc}
+use Rattle.std.specs.Prelude.{◌≡◌, List, [], ◌∷◌, ℕ, ℤ, pos, negsuc, Result, ⊤}
 use Rattle.rules.specs.declared.Offset.{Offset}
-use Rattle.rules.specs.declared.Written.{Written}
-use Rattle.rules.specs.declared.Paired.{Paired}
 use Rattle.rules.specs.Frames.{Frame, frame_of}
 use Rattle.rules.specs.Levels.{least_move_order, ExclusionRule, by_tolerance, by_band, Aligned, pair}
 use Rattle.rules.specs.Series.{series_answer}
@@ -18,10 +16,10 @@ pub record BandZero : Type 0 where
   pub series : (order : List Offset) (w h s n r : ℕ) (percentiles F : List ℕ)
       → series_answer order (band_settings w h s 0 n r percentiles) F ≡ series_answer order (tolerance_settings w h s 0 n r percentiles) F
   -- the calls: whatever a call by a band of 0 leaves, the call at tolerance 0 leaves
-  pub pair_calls : (order : List Offset) (w h s percentile : ℕ) (first second counts counts' compared compared' grey grey' words words' : List ℕ) (r : Paired)
+  pub pair_calls : (order : List Offset) (w h s percentile : ℕ) (first second counts counts' compared compared' grey grey' words words' : List ℕ) (r : Result Offset ℕ)
       → PairCall order (band_setup w h s 0 percentile) first second counts counts' compared compared' grey grey' words words' r
       → PairCall order (tolerance_setup w h s 0 percentile) first second counts counts' compared compared' grey grey' words words' r
-  pub series_calls : (order : List Offset) (w h s n r : ℕ) (percentiles F : List ℕ) (offsets offsets' : List ℤ) (counts counts' compared compared' grey grey' words words' : List ℕ) (k : Written)
+  pub series_calls : (order : List Offset) (w h s n r : ℕ) (percentiles F : List ℕ) (offsets offsets' : List ℤ) (counts counts' compared compared' grey grey' words words' : List ℕ) (k : Result ⊤ ℕ)
       → SeriesCall order (band_settings w h s 0 n r percentiles) F offsets offsets' counts counts' compared compared' grey grey' words words' k
       → SeriesCall order (tolerance_settings w h s 0 n r percentiles) F offsets offsets' counts counts' compared compared' grey grey' words words' k
 

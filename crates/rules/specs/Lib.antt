@@ -9,6 +9,7 @@ pub mod Planes
 pub mod Bitmaps
 pub mod Differences
 pub mod Refusals
+pub mod RefusalNumbers
 pub mod Accepted
 pub mod Answers
 pub mod Parts

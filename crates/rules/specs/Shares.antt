@@ -1,12 +1,9 @@
 -- How many pixels had a say (document 02, Paper 2): "A count of 3 means little without knowing out of how many." A count is at most its compared number, and
 -- a compared number at most the pixels of the overlap, so that an owner can divide one by the other wherever the compared number is not 0.
-use Rattle.std.specs.Prelude.{◌≡◌, List, ◌++◌, map, ℕ, zero, suc, ◌+◌, ◌*◌, ◌-◌, ◌/◌, ◌≤◌, ◌<◌, ℤ, nat_abs, get_or}
+use Rattle.std.specs.Prelude.{◌≡◌, List, ◌++◌, map, ℕ, zero, suc, ◌+◌, ◌*◌, ◌-◌, ◌/◌, ◌≤◌, ◌<◌, ℤ, nat_abs, get_or, Result, ⊤, Ok}
 use Rattle.rules.specs.declared.Offset.{Offset}
 use Rattle.rules.specs.declared.Setup.{Setup}
 use Rattle.rules.specs.declared.Tally.{Tally}
-use Rattle.rules.specs.declared.Tallied.{Tallied}
-use Rattle.rules.specs.declared.Paired.{Paired}
-use Rattle.rules.specs.declared.Written.{Written}
 use Rattle.rules.specs.Frames.{Frame}
 use Rattle.rules.specs.Greys.{grey_frame, halved}
 use Rattle.rules.specs.Differences.{Planes, difference, compared, overlap}
@@ -47,11 +44,11 @@ pub record Shares : Type 0 where
   -- subtraction stops at 0: a move by a side or more leaves no overlap
   pub area : (w h : ℕ) (dx dy : ℤ) → overlap w h dx dy ≡ (w - nat_abs dx) * (h - nat_abs dy)
   pub differences : (w h : ℕ) (dx dy : ℤ) (threshold1 exclusion1 threshold2 exclusion2 : List ℕ) (t : Tally)
-      → difference_answer w h dx dy threshold1 exclusion1 threshold2 exclusion2 ≡ Tallied.Tally t
+      → difference_answer w h dx dy threshold1 exclusion1 threshold2 exclusion2 ≡ Ok t
       → (t.count ≤ t.compared) × (t.compared ≤ overlap w h dx dy)
-  pub pairs : (order : List Offset) (S : Setup) (first second counts counts' compared compared' grey grey' words words' : List ℕ) (r : Paired)
+  pub pairs : (order : List Offset) (S : Setup) (first second counts counts' compared compared' grey grey' words words' : List ℕ) (r : Result Offset ℕ)
       → pair_number S first second counts compared grey words ≡ 0 → PairCall order S first second counts counts' compared compared' grey grey' words words' r
       → Shared (9 * (S.s + 1)) counts' compared' (pair_overlaps order S first second)
-  pub series : (order : List Offset) (S : Settings) (F : List ℕ) (offsets offsets' : List ℤ) (counts counts' compared compared' grey grey' words words' : List ℕ) (r : Written)
+  pub series : (order : List Offset) (S : Settings) (F : List ℕ) (offsets offsets' : List ℤ) (counts counts' compared compared' grey grey' words words' : List ℕ) (r : Result ⊤ ℕ)
       → series_number S F offsets counts compared grey words ≡ 0 → SeriesCall order S F offsets offsets' counts counts' compared compared' grey grey' words words' r
       → Shared (9 * (S.halvings + 1) * (S.frames - 1)) counts' compared' (series_overlaps order S F)

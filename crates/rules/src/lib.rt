@@ -1,43 +1,59 @@
 // The answers and settings that the offered calls share. The documents' rules themselves stand in specs/.
 #![tactic(auto)]
 
-// The answer of a call that writes into a lent buffer.
-#[derive(Clone, Copy)]
-pub enum Written {
-    Done,
-    Refused(u32),
+ghost use Rattle.std.specs.Prelude.{◌≡◌};
+ghost use Rattle.rules.specs.RefusalNumbers.{number_of};
+
+// Why a call is refused. As a number each is document 01's, or document 02's.
+#[derive(Clone, Copy, Debug, PartialEq, Eq)]
+pub enum Refusal {
+    // a P6 file's header
+    Header = 1,
+    // the width or the height
+    Size = 2,
+    Halvings = 3,
+    // a side is too short for the halvings
+    Small = 4,
+    Tolerance = 5,
+    // the number of frames
+    Frames = 6,
+    // the reference is no frame
+    Reference = 7,
+    Percentile = 8,
+    // an input's length
+    Length = 9,
+    // an output is short
+    Room = 10,
+    // work memory is short
+    Memory = 11,
+    // an offset is far out
+    Offset = 12,
+    // nothing is common to all frames
+    Apart = 13,
+    // a row past the last
+    Row = 14,
+    Band = 15,
+    // what the memory of a live bracket says
+    Held = 16,
 }
 
-// The answer of the total call.
-#[derive(Clone, Copy)]
-pub enum Counted {
-    Count(u32),
-    Refused(u32),
+impl From<Refusal> for u32 {
+    ghost from_gives = { λ refusal n. n ≡ number_of refusal };
+
+    fn from(refusal: Refusal) -> u32 {
+        refusal as u32
+    }
 }
 
 // The difference count at an offset, and out of how many pixels.
-#[derive(Clone, Copy)]
+#[derive(Clone, Copy, Debug, PartialEq, Eq)]
 pub struct Tally {
     pub count: u32,
     pub compared: u32,
 }
 
-// The answer of the difference call.
-#[derive(Clone, Copy)]
-pub enum Tallied {
-    Tally(Tally),
-    Refused(u32),
-}
-
-// The answer of the threshold call: a grey value.
-#[derive(Clone, Copy)]
-pub enum Thresholded {
-    At(u8),
-    Refused(u32),
-}
-
 // An offset moves a frame right by dx and down by dy.
-#[derive(Clone, Copy)]
+#[derive(Clone, Copy, Debug, PartialEq, Eq)]
 pub struct Offset {
     pub dx: i32,
     pub dy: i32,
@@ -67,11 +83,4 @@ pub struct Setup {
     pub s: u32,
     pub percentile: u32,
     pub exclusion: Exclusion,
-}
-
-// The answer of a pair call: the offset that moves the second frame onto the first.
-#[derive(Clone, Copy)]
-pub enum Paired {
-    Moved(Offset),
-    Refused(u32),
 }

@@ -1,12 +1,12 @@
 // Alignment of a series: the two offered calls, which differ in the order that they lend.
 #![tactic(auto)]
 
+ghost use Rattle.rules.specs.RefusalNumbers.{coded};
 ghost use Rattle.rules.specs.Levels.{ward_order, least_move_order};
 ghost use Rattle.rules.specs.Calls.{tolerance_settings, SeriesCall};
 
 use candidates::places;
-use refusals::tolerance_refusal;
-use rules::{Exclusion, Order, Setup, Written};
+use rules::{Exclusion, Order, Refusal, Setup};
 use series_in_order::series_in_order;
 
 // The offsets of all frames of a series from its reference, and the counts and compared numbers of its
@@ -25,10 +25,10 @@ pub fn series(
     compared: &mut [u32],
     grey: &mut [u8],
     words: &mut [u64],
-) -> Written
+) -> Result<(), Refusal>
     ensures { SeriesCall least_move_order (tolerance_settings w h s tolerance n r percentiles.now) rasters.now
         offsets.old offsets.new counts.old counts.new compared.old compared.new
-        grey.old grey.new words.old words.new result }
+        grey.old grey.new words.old words.new (coded result) }
 {
     let setup = Setup {
         w,
@@ -40,7 +40,6 @@ pub fn series(
     let order = places(Order::LeastMove);
     series_in_order(
         setup,
-        tolerance_refusal(tolerance),
         n,
         r,
         percentiles,
@@ -69,10 +68,10 @@ pub fn series_ward(
     compared: &mut [u32],
     grey: &mut [u8],
     words: &mut [u64],
-) -> Written
+) -> Result<(), Refusal>
     ensures { SeriesCall ward_order (tolerance_settings w h s tolerance n r percentiles.now) rasters.now
         offsets.old offsets.new counts.old counts.new compared.old compared.new
-        grey.old grey.new words.old words.new result }
+        grey.old grey.new words.old words.new (coded result) }
 {
     let setup = Setup {
         w,
@@ -84,7 +83,6 @@ pub fn series_ward(
     let order = places(Order::Ward);
     series_in_order(
         setup,
-        tolerance_refusal(tolerance),
         n,
         r,
         percentiles,

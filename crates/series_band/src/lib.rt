@@ -1,12 +1,12 @@
 // Alignment of a series with a noise band by rank in place of the tolerance.
 #![tactic(auto)]
 
+ghost use Rattle.rules.specs.RefusalNumbers.{coded};
 ghost use Rattle.rules.specs.Levels.{least_move_order};
 ghost use Rattle.rules.specs.Calls.{band_settings, SeriesCall};
 
 use candidates::places;
-use refusals::band_refusal;
-use rules::{Exclusion, Order, Setup, Written};
+use rules::{Exclusion, Order, Refusal, Setup};
 use series_in_order::series_in_order;
 
 // The offsets of all frames of a series from its reference, and the counts and compared numbers of its
@@ -26,10 +26,10 @@ pub fn series_band(
     compared: &mut [u32],
     grey: &mut [u8],
     words: &mut [u64],
-) -> Written
+) -> Result<(), Refusal>
     ensures { SeriesCall least_move_order (band_settings w h s band n r percentiles.now) rasters.now
         offsets.old offsets.new counts.old counts.new compared.old compared.new
-        grey.old grey.new words.old words.new result }
+        grey.old grey.new words.old words.new (coded result) }
 {
     let setup = Setup {
         w,
@@ -41,7 +41,6 @@ pub fn series_band(
     let order = places(Order::LeastMove);
     series_in_order(
         setup,
-        band_refusal(band),
         n,
         r,
         percentiles,

@@ -1,38 +1,20 @@
 -- What the pairs and their sums leave is the series' answer.
+use Rattle.std.specs.Prelude.{Ok, Err}
 use mathlib.Core.Path.{◌≡◌, refl, ap, ◌∙◌}
 use mathlib.Core.List.{List}
-use Prim.Native.Nat.{ℕ, ◌-◌, ◌≤◌, ◌<◌}
-use native.Mathlib.Omega.{arith}
+use Prim.Native.Nat.{ℕ, ◌-◌, ◌<◌}
 use lib.IntN.{ℤ}
 use Rattle.rules.specs.declared.Offset.{Offset}
 use Rattle.rules.specs.declared.Setup.{Setup}
-use Rattle.rules.specs.declared.Written.{Written}
 use Rattle.rules.specs.Frames.{written_over}
-use Rattle.rules.specs.Accepted.{SeriesOk}
 use Rattle.rules.specs.Series.{grey_of, pair_of, frame_offset, offset_list, Answer, answer_of, answer_by, series_answer}
 use Rattle.rules.specs.Calls.{SeriesLeft}
-use Rattle.rules.proofs.RefusalLaws.{written-refused, buffer-refused}
+use Rattle.rules.proofs.RefusalLaws.{buffer-refused, answer-refused}
 use Rattle.rules.proofs.SeriesLaws.{frame-list-ext}
 use Rattle.offsets.specs.PairOffsets.{pair_offset}
 use Rattle.offsets.proofs.PairOffsetLaws.{written-pair}
-use Rattle.next_pair.specs.PairRuns.{pairs_of, PairsOk, AllRan}
+use Rattle.next_pair.specs.PairRuns.{pairs_of, AllRan}
 use Rattle.series_in_order.specs.Settings.{settings_of}
-
--- an accepted series gives its pairs what they need
-pub pairs-ok : (S : Setup) (n r : ℕ) (ps : List ℕ) (rasters offsets pairs counts compared grey words : ℕ) → 30 ≤ pairs
-    → SeriesOk S.w S.h S.s S.exclusion n r ps rasters offsets counts compared grey words → PairsOk S n ps rasters pairs counts compared grey words
-pairs-ok S n r ps rasters offsets pairs counts compared grey words room k = record {
-  shape = k.shape;
-  frames = k.frames;
-  percentile = k.percentile;
-  many = k.percentiles;
-  exact = k.exact;
-  room1 = let f = k.frames in omega arith;
-  room2 = k.room2;
-  room3 = k.room3;
-  greys = k.greys;
-  bitmaps = k.bitmaps;
-}
 
 module _ (preferred : List Offset) (S : Setup) (n r : ℕ) (ps rasters : List ℕ) (pairs pairs' : List ℤ) (counts counts' compared compared' : List ℕ)
     (ran : AllRan n (pairs_of preferred S ps rasters) pairs pairs' counts counts' compared compared') where
@@ -56,10 +38,10 @@ module _ (preferred : List Offset) (S : Setup) (n r : ℕ) (ps rasters : List �
 
 -- What a refused call leaves, and an accepted one.
 pub refused-left : (n number : ℕ) (result : Answer) (offsets : List ℤ) (counts compared grey words : List ℕ) → n ≡ number → (n ≡ 0 → ⊥)
-    → SeriesLeft number result offsets offsets counts counts compared compared grey grey words words (Written.Refused n)
+    → SeriesLeft number result offsets offsets counts counts compared compared grey grey words words (Err n)
 refused-left n number result offsets counts compared grey words e l =
     rw (← e) (record {
-      answered = written-refused n l;
+      answered = answer-refused n tt l;
       offsets_are = buffer-refused n result.offsets offsets l;
       counts_are = buffer-refused n result.counts counts l;
       compared_are = buffer-refused n result.compared compared l;
@@ -68,6 +50,6 @@ refused-left n number result offsets counts compared grey words e l =
 
 pub accepted-left : (number : ℕ) (result : Answer) (offsets offsets' : List ℤ) (counts counts' compared compared' grey grey' words words' : List ℕ) → number ≡ 0
     → offsets' ≡ written_over result.offsets offsets → counts' ≡ written_over result.counts counts → compared' ≡ written_over result.compared compared
-    → SeriesLeft number result offsets offsets' counts counts' compared compared' grey grey' words words' Written.Done
+    → SeriesLeft number result offsets offsets' counts counts' compared compared' grey grey' words words' (Ok tt)
 accepted-left number result offsets offsets' counts counts' compared compared' grey grey' words words' z o c d =
     rw z (record { answered = refl; offsets_are = o; counts_are = c; compared_are = d; memory_kept = λ f. absurd (f refl) })

@@ -3,10 +3,11 @@
 ghost use Rattle.std.specs.Prelude.{◌≡◌, length};
 ghost use Rattle.rules.specs.Frames.{written_over};
 ghost use Rattle.rules.specs.Accepted.{SeriesOk};
-ghost use Rattle.rules.specs.Levels.{Arrangement, arranged};
+ghost use Rattle.rules.specs.Levels.{arranged};
 ghost use Rattle.rules.specs.Series.{series_answer};
 ghost use Rattle.series_in_order.specs.Settings.{settings_of};
 
+use candidates::Ranking;
 use offsets::frame_offsets;
 use rules::Setup;
 use series_pairs::align_pairs;
@@ -27,17 +28,16 @@ pub fn align_series(
     compared: &mut [u32],
     grey: &mut [u8],
     words: &mut [u64],
-    order: &[usize; 9],
+    order: &Ranking,
 )
     requires accepted { SeriesOk setup.w setup.h setup.s setup.exclusion n r percentiles.now
         (length rasters.now) (length offsets.old) (length counts.old) (length compared.old) (length grey.old) (length words.old) }
-    requires order { Arrangement order.now }
     ensures offsets { offsets.new
-        ≡ written_over (series_answer (arranged order.now) (settings_of setup n r percentiles.now) rasters.now).offsets offsets.old }
+        ≡ written_over (series_answer (arranged order.now.places) (settings_of setup n r percentiles.now) rasters.now).offsets offsets.old }
     ensures counts { counts.new
-        ≡ written_over (series_answer (arranged order.now) (settings_of setup n r percentiles.now) rasters.now).counts counts.old }
+        ≡ written_over (series_answer (arranged order.now.places) (settings_of setup n r percentiles.now) rasters.now).counts counts.old }
     ensures compared { compared.new
-        ≡ written_over (series_answer (arranged order.now) (settings_of setup n r percentiles.now) rasters.now).compared compared.old }
+        ≡ written_over (series_answer (arranged order.now.places) (settings_of setup n r percentiles.now) rasters.now).compared compared.old }
 {
     let mut pairs = [0i32; PAIR_NUMBERS];
     align_pairs(

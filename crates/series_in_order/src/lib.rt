@@ -3,21 +3,20 @@
 
 mod aligning;
 
-ghost use Rattle.std.specs.Prelude.{◌≡◌};
-ghost use Rattle.rules.specs.Levels.{Arrangement, arranged};
-ghost use Rattle.rules.specs.Calls.{exclusion_refusal, SeriesCall};
+ghost use Rattle.rules.specs.RefusalNumbers.{coded};
+ghost use Rattle.rules.specs.Levels.{arranged};
+ghost use Rattle.rules.specs.Calls.{SeriesCall};
 ghost use Rattle.series_in_order.specs.Settings.{settings_of};
 
 use align_refusals::series_refusal;
 use aligning::align_series;
-use rules::{Setup, Written};
+use candidates::Ranking;
+use rules::{Refusal, Setup};
 
 // The offsets of all frames of a series from its reference, and the counts and compared numbers of its
-// pairs. Candidates are preferred in the given order; `excluded` is the number that refuses the exclusion
-// setting, or 0. Each pair's percentile takes the place of the setup's.
+// pairs. Candidates are preferred in the given order. Each pair's percentile takes the place of the setup's.
 pub fn series_in_order(
     setup: Setup,
-    excluded: u32,
     n: usize,
     r: usize,
     percentiles: &[u32],
@@ -27,26 +26,17 @@ pub fn series_in_order(
     compared: &mut [u32],
     grey: &mut [u8],
     words: &mut [u64],
-    order: &[usize; 9],
-) -> Written
-    requires excluded { excluded ≡ exclusion_refusal setup.exclusion }
-    requires order { Arrangement order.now }
-    ensures { SeriesCall (arranged order.now) (settings_of setup n r percentiles.now) rasters.now
+    order: &Ranking,
+) -> Result<(), Refusal>
+    ensures { SeriesCall (arranged order.now.places) (settings_of setup n r percentiles.now) rasters.now
         offsets.old offsets.new counts.old counts.new compared.old compared.new
-        grey.old grey.new words.old words.new result }
+        grey.old grey.new words.old words.new (coded result) }
 {
-    let Setup {
-        w,
-        h,
-        s,
-        percentile,
-        exclusion,
-    } = setup;
-    let number = series_refusal(
-        w,
-        h,
-        s,
-        excluded,
+    series_refusal(
+        setup.w,
+        setup.h,
+        setup.s,
+        setup.exclusion,
         n,
         r,
         percentiles,
@@ -56,10 +46,7 @@ pub fn series_in_order(
         compared.len(),
         grey.len(),
         words.len(),
-    );
-    if number != 0 {
-        return Written::Refused(number);
-    }
+    )?;
     align_series(
         setup,
         n,
@@ -73,5 +60,5 @@ pub fn series_in_order(
         words,
         order,
     );
-    Written::Done
+    Ok(())
 }

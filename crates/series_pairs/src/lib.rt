@@ -2,12 +2,13 @@
 #![tactic(auto)]
 
 ghost use Rattle.std.specs.Prelude.{length};
-ghost use Rattle.rules.specs.Levels.{Arrangement, arranged};
+ghost use Rattle.rules.specs.Levels.{arranged};
 ghost use Rattle.next_pair.specs.PairRuns.{pairs_of, PairsOk, AllRan};
 
+use candidates::Ranking;
 use grey::conversion::convert;
 use next_pair::align_next;
-use popcount::table::BIT_COUNTS;
+use popcount::table::BitCounts;
 use rules::Setup;
 
 // Aligns each frame with the next one; each pair has its own percentile in the setup's place.
@@ -21,35 +22,21 @@ pub fn align_pairs(
     compared: &mut [u32],
     grey: &mut [u8],
     words: &mut [u64],
-    order: &[usize; 9],
+    order: &Ranking,
 )
     requires accepted { PairsOk setup n percentiles.now (length rasters.now) (length pairs.old) (length counts.old) (length compared.old) (length grey.old) (length words.old) }
-    requires order { Arrangement order.now }
-    ensures { AllRan n (pairs_of (arranged order.now) setup percentiles.now rasters.now)
+    ensures { AllRan n (pairs_of (arranged order.now.places) setup percentiles.now rasters.now)
         pairs.old pairs.new counts.old counts.new compared.old compared.new }
 {
-    let Setup {
-        w,
-        h,
-        s,
-        percentile,
-        exclusion,
-    } = setup;
-    convert(rasters, w * h, grey, 0);
-    let table = BIT_COUNTS;
-    let mut k: usize = 0;
-    while k + 1 < n {
-        let percentile = percentiles[k];
+    convert(rasters, setup.w * setup.h, grey, 0);
+    let table = BitCounts::new();
+    for k in 0..n - 1 {
         let own = Setup {
-            w,
-            h,
-            s,
-            percentile,
-            exclusion,
+            percentile: percentiles[k],
+            ..setup
         };
         align_next(
             own, k, rasters, pairs, counts, compared, grey, words, order, &table,
         );
-        k += 1;
     }
 }

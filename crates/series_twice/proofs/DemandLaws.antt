@@ -1,4 +1,5 @@
 -- Demand 3 of what the call writes, from the call's contract and the theorem about the definitions.
+use Rattle.std.specs.Prelude.{Result, ⊤}
 use mathlib.Core.Path.{◌≡◌, refl, sym, ap, subst, ◌∙◌}
 use mathlib.Core.List.{List}
 use Prim.Native.Nat.{ℕ, ◌+◌, ◌*◌, ◌-◌}
@@ -6,7 +7,6 @@ use native.Mathlib.Omega.{arith}
 use lib.IntN.{ℤ}
 use lib.ListN.{length, get_or}
 use Rattle.rules.specs.declared.Offset.{Offset}
-use Rattle.rules.specs.declared.Written.{Written}
 use Rattle.rules.specs.declared.Order.{Order}
 use Rattle.rules.specs.Answers.{written, buffer_after}
 use Rattle.rules.specs.Accepted.{SeriesOk}
@@ -52,7 +52,7 @@ kind-arranged (Kind.Band band) = order-arranged Order.LeastMove
 
 -- Two calls: for F, and for F'.
 module _ (preferred : List Offset) (nine : Arranged preferred) (S : Settings) (F F' : List ℕ) (offsets1 offsets2 out1 out2 : List ℤ) (counts1 counts2 made1 made2 : List ℕ)
-    (compared1 compared2 told1 told2 grey1 grey1' grey2 grey2' words1 words1' words2 words2' : List ℕ) (answer1 answer2 : Written)
+    (compared1 compared2 told1 told2 grey1 grey1' grey2 grey2' words1 words1' words2 words2' : List ℕ) (answer1 answer2 : Result ⊤ ℕ)
     (bytes : Bytes F) (bytes' : Bytes F')
     (one : SeriesCall preferred S F offsets1 out1 counts1 made1 compared1 told1 grey1 grey1' words1 words1' answer1)
     (two : SeriesCall preferred S F' offsets2 out2 counts2 made2 compared2 told2 grey2 grey2' words2 words2' answer2)

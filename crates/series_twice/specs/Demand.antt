@@ -1,6 +1,5 @@
 -- Demand 3 of document 00, about what a series call writes.
-use Rattle.std.specs.Prelude.{◌≡◌, List, ℕ, ◌+◌, ◌*◌, ◌-◌, ℤ, length, take}
-use Rattle.rules.specs.declared.Written.{Written}
+use Rattle.std.specs.Prelude.{◌≡◌, List, ℕ, ◌+◌, ◌*◌, ◌-◌, ℤ, length, take, Result, ⊤, Ok}
 use Rattle.rules.specs.Series.{Settings, Answer, series_answer}
 use Rattle.rules.specs.declared.Offset.{Offset}
 use Rattle.rules.specs.Levels.{tolerance_in}
@@ -34,8 +33,8 @@ pub record Given (S : Settings) (F F' : List ℕ) (offsets offsets' : List ℤ) 
 -- "Then the packed answers for F and for F' are the same, and both equal the pixel-by-pixel answer for F': every offset and all 9·(s+1)·(N−1)
 -- counts", and "at tolerance 0 re-exposed frames give equal compared numbers too". "In both, frame k's offset is in size at most |k−r|·(2^(s+1)−1) on each axis." And "F' is accepted too".
 -- `preferred` is the order of the nine that the call uses.
-pub record Demanded (preferred : List Offset) (S : Settings) (F' : List ℕ) (answer' : Written) (packed packed' : Answer) : Type 0 where
-  pub accepted : answer' ≡ Written.Done
+pub record Demanded (preferred : List Offset) (S : Settings) (F' : List ℕ) (answer' : Result ⊤ ℕ) (packed packed' : Answer) : Type 0 where
+  pub accepted : answer' ≡ Ok tt
   pub same : packed ≡ packed'
   pub pixels : packed ≡ series_answer preferred S F'
   pub pixels' : packed' ≡ series_answer preferred S F'

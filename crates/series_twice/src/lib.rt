@@ -1,12 +1,13 @@
 // Demand 3 as a contract: a series call, made for a series and for another one.
 #![tactic(auto)]
 
+ghost use Rattle.rules.specs.RefusalNumbers.{coded};
 ghost use Rattle.rules.specs.Levels.{order_of};
 ghost use Rattle.rules.specs.Calls.{tolerance_settings, SeriesCall};
 ghost use Rattle.series_twice.specs.Kinds.{order_by, settings_by};
 ghost use Rattle.series_twice.specs.Demand.{packed_answer, Given, Demanded};
 
-use rules::{Order, Written};
+use rules::{Order, Refusal};
 use series::{series, series_ward};
 use series_band::series_band;
 
@@ -20,8 +21,8 @@ pub enum Kind {
 // The answers of two series calls.
 #[derive(Clone, Copy)]
 pub struct Answers {
-    pub first: Written,
-    pub second: Written,
+    pub first: Result<(), Refusal>,
+    pub second: Result<(), Refusal>,
 }
 
 // The series call of an order, by a tolerance.
@@ -40,10 +41,10 @@ fn series_in(
     compared: &mut [u32],
     grey: &mut [u8],
     words: &mut [u64],
-) -> Written
+) -> Result<(), Refusal>
     ensures { SeriesCall (order_of order) (tolerance_settings w h s tolerance n r percentiles.now) rasters.now
         offsets.old offsets.new counts.old counts.new compared.old compared.new
-        grey.old grey.new words.old words.new result }
+        grey.old grey.new words.old words.new (coded result) }
 {
     match order {
         Order::LeastMove => series(
@@ -94,10 +95,10 @@ fn series_by(
     compared: &mut [u32],
     grey: &mut [u8],
     words: &mut [u64],
-) -> Written
+) -> Result<(), Refusal>
     ensures { SeriesCall (order_by kind) (settings_by kind w h s n r percentiles.now) rasters.now
         offsets.old offsets.new counts.old counts.new compared.old compared.new
-        grey.old grey.new words.old words.new result }
+        grey.old grey.new words.old words.new (coded result) }
 {
     match kind {
         Kind::Tolerance(order, tolerance) => series_in(
@@ -160,14 +161,14 @@ pub fn align_twice(
 ) -> Answers
     ensures first { SeriesCall (order_by kind) (settings_by kind w h s n r percentiles.now) rasters1.now
         offsets1.old offsets1.new counts1.old counts1.new compared1.old compared1.new
-        grey1.old grey1.new words1.old words1.new result.first }
+        grey1.old grey1.new words1.old words1.new (coded result.first) }
     ensures second { SeriesCall (order_by kind) (settings_by kind w h s n r percentiles.now) rasters2.now
         offsets2.old offsets2.new counts2.old counts2.new compared2.old compared2.new
-        grey2.old grey2.new words2.old words2.new result.second }
+        grey2.old grey2.new words2.old words2.new (coded result.second) }
     ensures demand { Given (settings_by kind w h s n r percentiles.now) rasters1.now rasters2.now
         offsets1.old offsets2.old counts1.old counts2.old compared1.old compared2.old
         grey1.old grey2.old words1.old words2.old
-        → Demanded (order_by kind) (settings_by kind w h s n r percentiles.now) rasters2.now result.second
+        → Demanded (order_by kind) (settings_by kind w h s n r percentiles.now) rasters2.now (coded result.second)
         (packed_answer (settings_by kind w h s n r percentiles.now) offsets1.new counts1.new compared1.new)
         (packed_answer (settings_by kind w h s n r percentiles.now) offsets2.new counts2.new compared2.new) }
 {

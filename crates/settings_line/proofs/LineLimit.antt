@@ -7,6 +7,7 @@ use Prim.Native.Nat.{ℕ, zero, suc, ◌+◌, ◌≤◌, ◌<◌, min}
 use native.Mathlib.Nat.{zero-min, min-zero, suc-min-suc}
 use native.Mathlib.Omega.{arith}
 use lib.Dec.{eqb}
+use Rattle.std.proofs.Common.{Option, Some, None}
 use lib.ListN.{length, get_or, take, drop, length-take}
 use lib.Seq.{take-take}
 use borrow.Author.Tests.{eqb-true}
@@ -18,35 +19,35 @@ use Rattle.settings_line.specs.declared.Settings.{Settings}
 use Rattle.settings_line.specs.SettingsLine.{line_of, spaced, last, numbers_of, settings_of}
 
 -- "The longest good line has 29 bytes, so a 30th is looked at."
-spaced-bad : (line : List ℕ) (at : ℕ) (m : Number) (next : ℕ → ℕ → Settings)
-    → ((v n : ℕ) → m ≡ Number.Read v n → next v (at + n + 1) ≡ Settings.Bad) → spaced line at m next ≡ Settings.Bad
+spaced-none : (line : List ℕ) (at : ℕ) (m : Option Number) (next : ℕ → ℕ → Option Settings)
+    → ((n : Number) → m ≡ Some n → next n.value (at + n.count + 1) ≡ None) → spaced line at m next ≡ None
 unfolding spaced
-spaced-bad line at Number.Bad next bad = refl
-spaced-bad line at (Number.Read v n) next bad = tested (eqb (get_or line (at + n) 0) 32)
+spaced-none line at None next bad = refl
+spaced-none line at (Some n) next bad = tested (eqb (get_or line (at + n.count) 0) 32)
   where
-    tested : (t : Bool) → cond t (next v (at + n + 1)) Settings.Bad ≡ Settings.Bad
-    tested true = bad v n refl
+    tested : (t : Bool) → cond t (next n.value (at + n.count + 1)) None ≡ None
+    tested true = bad n refl
     tested false = refl
 
-last-bad : (line : List ℕ) (at : ℕ) (m : Number) (next : ℕ → Settings)
-    → ((v n : ℕ) → m ≡ Number.Read v n → at + n < length line) → last line at m next ≡ Settings.Bad
+last-none : (line : List ℕ) (at : ℕ) (m : Option Number) (next : ℕ → Option Settings)
+    → ((n : Number) → m ≡ Some n → at + n.count < length line) → last line at m next ≡ None
 unfolding last
-last-bad line at Number.Bad next short = refl
-last-bad line at (Number.Read v n) next short = tested (eqb (at + n) (length line)) refl
+last-none line at None next short = refl
+last-none line at (Some n) next short = tested (eqb (at + n.count) (length line)) refl
   where
-    tested : (t : Bool) → eqb (at + n) (length line) ≡ t → cond t (next v) Settings.Bad ≡ Settings.Bad
-    tested true e = absurd (let a = eqb-true (at + n) (length line) e in let b = short v n refl in omega arith)
+    tested : (t : Bool) → eqb (at + n.count) (length line) ≡ t → cond t (next n.value) None ≡ None
+    tested true e = absurd (let a = eqb-true (at + n.count) (length line) e in let b = short n refl in omega arith)
     tested false e = refl
 
-long-bad : (line : List ℕ) → 30 ≤ length line → numbers_of line ≡ Settings.Bad
+long-none : (line : List ℕ) → 30 ≤ length line → numbers_of line ≡ None
 unfolding numbers_of
-long-bad line long =
-    spaced-bad line 0 (number_of line) _ (λ s n1 e1.
-    spaced-bad line (0 + n1 + 1) (number_of (drop (0 + n1 + 1) line)) _ (λ tolerance n2 e2.
-    last-bad line (0 + n1 + 1 + n2 + 1) (number_of (drop (0 + n1 + 1 + n2 + 1) line)) _ (λ percentile n3 e3.
-    let a = read_ok line s n1 e1 in
-    let b = read_ok (drop (0 + n1 + 1) line) tolerance n2 e2 in
-    let c = read_ok (drop (0 + n1 + 1 + n2 + 1) line) percentile n3 e3 in
+long-none line long =
+    spaced-none line 0 (number_of line) _ (λ s e1.
+    spaced-none line (0 + s.count + 1) (number_of (drop (0 + s.count + 1) line)) _ (λ tolerance e2.
+    last-none line (0 + s.count + 1 + tolerance.count + 1) (number_of (drop (0 + s.count + 1 + tolerance.count + 1) line)) _ (λ percentile e3.
+    let a = read_ok line s e1 in
+    let b = read_ok (drop (0 + s.count + 1) line) tolerance e2 in
+    let c = read_ok (drop (0 + s.count + 1 + tolerance.count + 1) line) percentile e3 in
     omega arith)))
 
 leading-take : (p : ℕ → Bool) (k : ℕ) (l : List ℕ) → leading p (take k l) ≡ min k (leading p l)
@@ -86,4 +87,4 @@ settings-within input = ⊎_elim (settings-ended input 30) far (order n 30)
         let c = length-take 30 input in
         let d = length-take (leading in_line (take 30 input)) (take 30 input) in
         let e = length-take n input in
-        long-bad (take (leading in_line (take 30 input)) (take 30 input)) (omega arith) ∙ sym (long-bad (take n input) (omega arith))
+        long-none (take (leading in_line (take 30 input)) (take 30 input)) (omega arith) ∙ sym (long-none (take n input) (omega arith))

@@ -10,88 +10,57 @@ use text::{Number, read_number};
 
 // What a settings line says.
 #[derive(Clone, Copy)]
-pub enum Settings {
-    Given {
-        s: u32,
-        tolerance: u32,
-        percentile: u32,
-    },
-    Bad,
+pub struct Settings {
+    pub s: u32,
+    pub tolerance: u32,
+    pub percentile: u32,
 }
 
 // The length of the line: it ends at a byte 10 or at the end of input.
 fn line_length(input: &[u8]) -> usize
     ensures { result ≡ leading (λ b. not (eqb b 10)) input.now }
 {
-    let mut n: usize = 0;
-    while n < input.len() {
-        if input[n] == b'\n' {
-            return n;
-        }
-        n += 1;
-    }
-    n
+    input.iter().take_while(|b| **b != b'\n').count()
 }
 
 // The number at place `at`, and how many bytes it takes with the 32 after it.
-fn spaced_number(line: &[u8], at: usize) -> Number
+#[tactic(auto, unfolding(crate::specs::SpacedNumbers::spaced_number, crate::specs::SpacedNumbers::with_space))]
+fn spaced_number(line: &[u8], at: usize) -> Option<Number>
     requires { at ≤ length line.now }
     ensures { result ≡ spaced_number line.now at }
 {
-    let Number::Read { value, count } = read_number(&line[at..]) else {
-        return Number::Bad;
-    };
-    let end = at + count;
-    if line.len() <= end {
-        return Number::Bad;
+    let number = read_number(&line[at..])?;
+    let end = at + number.count;
+    let after = *line.get(end)?;
+    if after != b' ' {
+        return None;
     }
-    if line[end] != b' ' {
-        return Number::Bad;
-    }
-    Number::Read {
-        value,
-        count: count + 1,
-    }
+    Some(Number {
+        value: number.value,
+        count: number.count + 1,
+    })
 }
 
 // The three numbers of a line.
-fn numbers_of(line: &[u8]) -> Settings
+fn numbers_of(line: &[u8]) -> Option<Settings>
     ensures { result ≡ numbers_of line.now }
 {
-    let Number::Read {
-        value: s,
-        count: first,
-    } = spaced_number(line, 0)
-    else {
-        return Settings::Bad;
-    };
-    let Number::Read {
-        value: tolerance,
-        count: second,
-    } = spaced_number(line, first)
-    else {
-        return Settings::Bad;
-    };
-    let at = first + second;
-    let Number::Read {
-        value: percentile,
-        count: third,
-    } = read_number(&line[at..])
-    else {
-        return Settings::Bad;
-    };
-    if at + third != line.len() {
-        return Settings::Bad;
+    let s = spaced_number(line, 0)?;
+    let tolerance = spaced_number(line, s.count)?;
+    let at = s.count + tolerance.count;
+    let percentile = read_number(&line[at..])?;
+    if at + percentile.count != line.len() {
+        return None;
     }
-    Settings::Given {
-        s,
-        tolerance,
-        percentile,
-    }
+    Some(Settings {
+        s: s.value,
+        tolerance: tolerance.value,
+        percentile: percentile.value,
+    })
 }
 
 // What the first line of an input says.
-pub fn settings_of(input: &[u8]) -> Settings
+pub fn settings_of(input: &[u8]) -> Option<Settings>
     ensures { result ≡ settings_of input.now }
 {
     let n = line_length(input);

@@ -18,7 +18,6 @@ use Rattle.rules.proofs.SumLaws.{order, sum-zero, gate-zero}
 use Rattle.rules.proofs.FrameLaws.{frame-written}
 use Rattle.words.specs.declared.moves.Move.{Move}
 use Rattle.words.specs.Rows.{bias, bias_of}
-use Rattle.words.specs.Moves.{Moves}
 use Rattle.words.specs.MovedRows.{moved_word}
 use Rattle.words.proofs.MoveLaws.{within-zero, within-before, within-at, within-past}
 use Rattle.words.proofs.MovedRowLaws.{shifted_row}
@@ -40,9 +39,9 @@ module _ (src : List ℕ) (w h : ℕ) (dx dy : ℤ) (bx : SFits w32 dx) (by : SF
       (λ x. (λ i. within w (pos x -ℤ dx) (λ x'. e (λ y'. bit_at w h src x' y') i)) ∙ within-zero w (pos x -ℤ dx))
 
   -- the move is dx, counted from the bias, in rows of w pixels
-  module _ (m : Move) (moves : Moves m) (ew : m.w ≡ w) (ed : m.q * 64 + m.r ≡ bias_of dx) where
+  module _ (m : Move) (ew : m.w ≡ w) (ed : m.q * 64 + m.r ≡ bias_of dx) where
     words : m.n ≡ row_words w
-    words = moves.row ∙ ap row_words ew
+    words = m.moves.row ∙ ap row_words ew
 
     rows-shifted : (k y : ℕ) → placed_rows src h m (bias_of dy) k y ≡ word_of w (shifted w h dx dy (bit_at w h src)) k y
     rows-shifted k y = ⊎_elim before (λ (l : bias_of dy ≤ bias + y). ⊎_elim (inside l) (past l) (order (bias + y - bias_of dy) h)) (order (bias + y) (bias_of dy))
@@ -54,7 +53,7 @@ module _ (src : List ℕ) (w h : ℕ) (dx dy : ℤ) (bx : SFits w32 dx) (by : SF
         inside l i =
             sym (row_inside src h m (bias_of dy) y l i k)
             ∙ (λ j. moved_word src ((bias + y - bias_of dy) * words j) (ew j) m.q m.r k)
-            ∙ shifted_row src w h y (bias + y - bias_of dy) dx dy m.q m.r bx moves.bits ed i (λ f. within-at h y dy f by l i) k
+            ∙ shifted_row src w h y (bias + y - bias_of dy) dx dy m.q m.r bx m.moves.bits ed i (λ f. within-at h y dy f by l i) k
 
         past : bias_of dy ≤ bias + y → h ≤ bias + y - bias_of dy → placed_rows src h m (bias_of dy) k y ≡ word_of w (shifted w h dx dy (bit_at w h src)) k y
         past l i = sym (row-past src h m (bias_of dy) y l i k) ∙ sym (shifted_none y (λ f. within-past h y dy f by l i) k)

@@ -2,8 +2,8 @@
 use mathlib.Core.Path.{◌≡◌, refl, sym, ap, ◌∙◌}
 use mathlib.Core.Logic.{◌⊎◌, inl, inr, ⊎_elim}
 use mathlib.Core.List.{List}
-use Prim.Native.Nat.{ℕ, ◌+◌, ◌*◌, ◌-◌, ◌/◌, ◌≤◌, ◌<◌, min, max}
-use native.Mathlib.Nat.{zero-add, add-mul, mul_comm, mul-le-mul_left, mul-le-mul_right, div-lt_iff_lt-mul}
+use Prim.Native.Nat.{ℕ, ◌+◌, ◌*◌, ◌-◌, ◌≤◌, ◌<◌, min}
+use native.Mathlib.Nat.{zero-add, add-mul, mul_comm, mul-le-mul_right}
 use native.Mathlib.Omega.{arith}
 use lib.Dec.{ltb}
 use lib.ListN.{get_or}
@@ -16,7 +16,7 @@ use Rattle.words.specs.declared.moves.Move.{Move}
 use Rattle.words.specs.Rows.{bias}
 use Rattle.words.specs.MovedRows.{moved_row}
 use Rattle.words.proofs.MoveLaws.{gate-lt, gate-ge, back_at, back-under}
-use Rattle.slide_words.specs.Slides.{moved_rows}
+use Rattle.shift_words.specs.MovedParts.{moved_rows}
 use Rattle.shift_rows.specs.ShiftPlaces.{blank, placed_row, placed_rows}
 
 -- the three cases of a row's source
@@ -57,6 +57,15 @@ rows_more to n f g y rows before mid after a b same = record {
         let e : to + (z * n + x) ≡ to + y * n + ((z - y) * n + x) = omega arith in
         ap (λ (j : ℕ). get_or after j 0) e ∙ b.done x (z - y) l (omega arith) ∙ same x (z - y) (omega arith) ∙ ap (f x) c
 
+-- a block more of the rows, or what is left of them
+pub block-more : (to n : ℕ) (f g : Frame) (h y block rows : ℕ) (before mid after : List ℕ) → y < h → rows ≡ min block (h - y)
+    → FrameAt to n f before (min y h) mid → FrameAt (to + y * n) n g mid rows after → ((k z : ℕ) → z < rows → g k z ≡ f k (y + z))
+    → FrameAt to n f before (min (y + block) h) after
+block-more to n f g h y block rows before mid after l e a b same =
+    let p : min y h ≡ y = omega arith in
+    let q : y + rows ≡ min (y + block) h = omega arith in
+    rw q at (rows_more to n f g y rows before mid after (rw p at a) b same)
+
 -- rows lie in their frame
 pub rows_fit : (n h y rows : ℕ) → y + rows ≤ h → y * n + n * rows ≤ n * h
 rows_fit n h y rows l =
@@ -65,10 +74,6 @@ rows_fit n h y rows l =
     let c = mul_comm n h in
     let d = mul_comm n rows in
     omega arith
-
--- a quotient by more than 0
-pub quotient_fits : (a n : ℕ) → a / (n + 1) < a + 1
-quotient_fits a n = (div-lt_iff_lt-mul {k = n + 1} {x = a} {y = a + 1} (omega arith)).1 (let c = mul-le-mul_left {m = 1} {n = n + 1} (a + 1) (omega arith) in omega arith)
 
 -- so do the rows above, those that are moved, where they come from and where they go to, and the rows below
 pub parts-room : (n h above below rows : ℕ) → rows ≡ h - above - below → above + below ≤ h
@@ -107,14 +112,8 @@ NotUp h down above below = (below ≡ 0) × ((bias ≤ down) × (above ≡ min h
 abbrev pub Parts : ℕ → ℕ → ℕ → ℕ → Type 0
 Parts h down above below = Up h down above below ⊎ NotUp h down above below
 
-pub parts : (h down origin above below : ℕ) → origin ≡ max down bias → above ≡ min h (origin - bias) → below ≡ min h (origin - down) → Parts h down above below
-parts h down origin above below o a b = ⊎_elim up not-up (order down bias)
-  where
-    up : down < bias → Parts h down above below
-    up l = let e : origin ≡ bias = omega arith in inl (omega arith, (omega arith, b ∙ ap (λ (j : ℕ). min h (j - down)) e))
-
-    not-up : bias ≤ down → Parts h down above below
-    not-up l = let e : origin ≡ down = omega arith in inr (omega arith, (l, a ∙ ap (λ (j : ℕ). min h (j - bias)) e))
+pub parts : (h down above below : ℕ) → above ≡ min h (down - bias) → below ≡ min h (bias - down) → Parts h down above below
+parts h down above below a b = ⊎_elim (λ (l : down < bias). inl (omega arith, (omega arith, b))) (λ (l : bias ≤ down). inr (omega arith, (l, a))) (order down bias)
 
 module _ (h down above below : ℕ) (p : Parts h down above below) where
   pub parts-fit : above + below ≤ h

@@ -3,13 +3,11 @@ use Rattle.std.specs.Prelude.{List, ℕ, ◌+◌, ◌*◌, ◌-◌, ◌≤◌, �
 use Rattle.rules.specs.Limits.{word_bits}
 use Rattle.rules.specs.Buffers.{RowAt}
 use Rattle.words.specs.declared.moves.Move.{Move}
-use Rattle.words.specs.Moves.{Moves}
 use Rattle.words.specs.MovedRows.{moved_word}
-use Rattle.slide_words.specs.Slides.{from_word}
+use Rattle.shift_words.specs.MovedParts.{from_word}
 
 -- what a run from word `first` up to word `end` of h rows may assume, of memories of `src` and `dst` words
 pub record RunIn (m : Move) (h first end from src to dst : ℕ) : Type 0 where
-  pub moves : Moves m
   pub some : (m.first < m.end) × (0 < h)
   pub after : m.first ≤ first
   pub span : first ≤ end

@@ -1,11 +1,10 @@
 // The words of a packed bitmap moved sideways from one memory into another: their interior words in one
-// run, and some columns of words of all rows. (`slide_words` has the same inside one memory.)
+// run, and some columns of words of all rows.
 #![tactic(auto)]
 
 ghost use Rattle.std.specs.Prelude.{◌≡◌, ◌+◌, ◌*◌, ◌≤◌, ◌<◌, length};
 ghost use Rattle.rules.specs.Buffers.{FrameAt};
-ghost use Rattle.words.specs.Moves.{Moves};
-ghost use Rattle.slide_words.specs.Slides.{moved_rows, Columns, Interiors};
+ghost use Rattle.shift_words.specs.MovedParts.{moved_rows, Columns, Interiors};
 ghost use Rattle.shift_words.specs.Runs.{RunIn, RunAt};
 
 use words::BIAS_WORDS;
@@ -14,17 +13,14 @@ use words::moves::{Move, clipped_word, joined_word};
 // Word k of every row. What it is made of is the same for all rows, so the compiler takes most of the
 // tests out of the loop.
 fn move_column(src: &[u64], from: usize, dst: &mut [u64], to: usize, m: Move, h: usize, k: usize)
-    requires moves { Moves m }
     requires here { k < m.n }
     requires source { from + m.n * h ≤ length src.now }
     requires room { to + m.n * h ≤ length dst.old }
     ensures { Columns to m.n (moved_rows src.now from m) k (k + 1) dst.old h dst.new }
 {
-    let mut y: usize = 0;
-    while y < h {
+    for y in 0..h {
         let row = y * m.n;
         dst[to + (row + k)] = clipped_word(src, from + row, m, k);
-        y += 1;
     }
 }
 
@@ -39,16 +35,13 @@ fn move_columns(
     first: usize,
     end: usize,
 )
-    requires moves { Moves m }
     requires span { (first ≤ end) × (end ≤ m.n) }
     requires source { from + m.n * h ≤ length src.now }
     requires room { to + m.n * h ≤ length dst.old }
     ensures { Columns to m.n (moved_rows src.now from m) first end dst.old h dst.new }
 {
-    let mut k = first;
-    while k < end {
+    for k in first..end {
         move_column(src, from, dst, to, m, h, k);
-        k += 1;
     }
 }
 
@@ -68,11 +61,9 @@ fn join_run(
     requires { RunIn m h first end from (length src.now) to (length dst.old) }
     ensures { RunAt src.now from m h to first end dst.old dst.new }
 {
-    let mut k = first;
-    while k < end {
+    for k in first..end {
         let j = from + k + BIAS_WORDS - m.q;
         dst[to + k] = joined_word(src[j], src[j - 1], m.r);
-        k += 1;
     }
 }
 
@@ -91,11 +82,9 @@ fn copy_run(
     requires bits { m.r ≡ 0 }
     ensures { RunAt src.now from m h to first end dst.old dst.new }
 {
-    let mut k = first;
-    while k < end {
-        dst[to + k] = src[from + k + BIAS_WORDS - m.q];
-        k += 1;
-    }
+    let j = from + first + BIAS_WORDS - m.q;
+    let source = &src[j..j + (end - first)];
+    dst[to + first..to + end].copy_from_slice(source);
 }
 
 // The same of any move.
@@ -123,7 +112,6 @@ fn move_run(
 // even place: the compiler writes two words at a time, and where memory is aligned to both of them they
 // never cross a line of the cache.
 fn move_interiors(src: &[u64], from: usize, dst: &mut [u64], to: usize, m: Move, h: usize)
-    requires moves { Moves m }
     requires source { from + m.n * h ≤ length src.now }
     requires room { to + m.n * h ≤ length dst.old }
     ensures { Interiors to h m (moved_rows src.now from m) dst.old dst.new }
@@ -141,7 +129,6 @@ fn move_interiors(src: &[u64], from: usize, dst: &mut [u64], to: usize, m: Move,
 
 // The h rows from place `from` of one memory on, moved sideways, written from place `to` of the other on.
 pub fn move_rows(src: &[u64], from: usize, dst: &mut [u64], to: usize, m: Move, h: usize)
-    requires moves { Moves m }
     requires source { from + m.n * h ≤ length src.now }
     requires room { to + m.n * h ≤ length dst.old }
     ensures { FrameAt to m.n (moved_rows src.now from m) dst.old h dst.new }

@@ -12,7 +12,6 @@ use mir.Facts.{to_z-of_z}
 use Rattle.rules.specs.Bitmaps.{row_words}
 use Rattle.rules.specs.Differences.{Planes}
 use Rattle.rules.specs.Calls.{planes_of}
-use Rattle.word_runs.specs.WordRuns.{Clean}
 use Rattle.slid_counts.specs.SlidPlaces.{first_in, slid_in}
 
 -- a list from place n on, as it is lent
@@ -24,9 +23,6 @@ lent_is n l = take_all (length l - n) (drop n l) (let a = length-drop n l in ome
 
 -- the parts of the words from their bitmaps on, for the numbers against the slid frame
 module _ (w h n : ℕ) (words : List ℕ) (e : n ≡ row_words w * h) where
-  pub parts-clean : Clean w h (drop (5 * (row_words w * h)) words) → Clean w h (lent_from (5 * n) words)
-  parts-clean clean = rw (lent_is (5 * n) words, e) clean
-
   -- any number of the planes
   pub parts_same : (number : ℤ → Planes → Planes → ℕ) (dy : ℤ) → SFits w32 dy
       → number (to_z w32 (of_z w32 dy)) (planes_of w h words (lent_from n words)) (planes_of w h (lent_from (4 * n) words) (lent_from (5 * n) words))

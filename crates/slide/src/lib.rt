@@ -1,5 +1,5 @@
-// A packed bitmap moved sideways inside one lent memory: a memory can't be lent in two parts at once, so
-// the bitmap and the moved one are places of one slice.
+// A packed bitmap moved sideways inside one lent memory: the bitmap and the moved one are places of one
+// slice, which is lent in two parts.
 #![tactic(auto)]
 
 ghost use Rattle.std.specs.Prelude.{◌+◌, ◌*◌, ◌≤◌, pos, length, drop};
@@ -8,7 +8,7 @@ ghost use Rattle.rules.specs.Planes.{shifted};
 ghost use Rattle.rules.specs.Bitmaps.{row_words, bit_at, word_of};
 ghost use Rattle.rules.specs.Buffers.{FrameAt};
 
-use slide_words::{slide_columns, slide_interiors};
+use shift_words::move_rows;
 use words::biased;
 use words::moves::move_by;
 
@@ -22,7 +22,6 @@ pub fn slide_within(words: &mut [u64], from: usize, w: usize, h: usize, dx: i32,
     ensures { FrameAt to (row_words w) (word_of w (shifted w h dx (pos 0) (bit_at w h (drop from words.old)))) words.old h words.new }
 {
     let m = move_by(w, biased(dx));
-    slide_interiors(words, from, m, h, to);
-    slide_columns(words, from, m, h, to, 0, m.first);
-    slide_columns(words, from, m, h, to, m.end, m.n);
+    let (bitmap, moved) = words.split_at_mut(to);
+    move_rows(bitmap, from, moved, 0, m, h);
 }

@@ -9,13 +9,11 @@ ghost use Rattle.std.specs.Prelude.{◌≡◌, ◌+◌, ◌/◌, ◌%◌, ◌<�
 ghost use Rattle.rules.specs.Limits.{word_bits};
 ghost use Rattle.rules.specs.Sums.{sum};
 ghost use Rattle.rules.specs.Bitmaps.{bit};
-ghost use Rattle.popcount.specs.Table.{CountsBits};
 ghost use Rattle.tallies.specs.Tallies.{compared_unit, tally};
 ghost use Rattle.tallies.specs.Held.{held, most_eights};
 
-use counter::{Counter, count_eight, count_held};
-use popcount::adder::seven_word_count;
-use popcount::table::word_count;
+use counter::Counter;
+use popcount::table::BitCounts;
 use rules::Tally;
 
 // What a pixel that is compared adds.
@@ -44,12 +42,16 @@ pub fn split(both: u64) -> Tally
     }
 }
 
-// Of one word.
-pub fn word_tally(v: Words, table: &[u8; 256]) -> u64
-    requires { CountsBits table.now }
-    ensures { result ≡ tally (sum word_bits (bit v.differing)) (sum word_bits (bit v.kept)) }
-{
-    both_counts(word_count(v.differing, table), word_count(v.kept, table))
+impl Words {
+    // Both counts of one word.
+    pub fn tally(self, table: &BitCounts) -> u64
+        ensures { result ≡ tally (sum word_bits (bit self.differing)) (sum word_bits (bit self.kept)) }
+    {
+        both_counts(
+            table.word_count(self.differing),
+            table.word_count(self.kept),
+        )
+    }
 }
 
 // Of seven words.
@@ -61,9 +63,8 @@ pub fn seven_word_tally(
     e: Words,
     f: Words,
     g: Words,
-    table: &[u8; 256],
+    table: &BitCounts,
 ) -> u64
-    requires { CountsBits table.now }
     ensures { result ≡ tally
         (sum word_bits (bit a.differing) + sum word_bits (bit b.differing) + sum word_bits (bit c.differing) + sum word_bits (bit d.differing)
         + sum word_bits (bit e.differing) + sum word_bits (bit f.differing) + sum word_bits (bit g.differing))
@@ -71,7 +72,7 @@ pub fn seven_word_tally(
         + sum word_bits (bit e.kept) + sum word_bits (bit f.kept) + sum word_bits (bit g.kept)) }
 {
     both_counts(
-        seven_word_count(
+        table.seven_word_count(
             a.differing,
             b.differing,
             c.differing,
@@ -79,11 +80,8 @@ pub fn seven_word_tally(
             e.differing,
             f.differing,
             g.differing,
-            table,
         ),
-        seven_word_count(
-            a.kept, b.kept, c.kept, d.kept, e.kept, f.kept, g.kept, table,
-        ),
+        table.seven_word_count(a.kept, b.kept, c.kept, d.kept, e.kept, f.kept, g.kept),
     )
 }
 
@@ -94,61 +92,57 @@ pub struct Counters {
     pub kept: Counter,
 }
 
-// Eight words more.
-pub fn tally_eight(
-    before: Counters,
-    a: Words,
-    b: Words,
-    c: Words,
-    d: Words,
-    e: Words,
-    f: Words,
-    g: Words,
-    h: Words,
-    table: &[u8; 256],
-) -> Counters
-    requires table { CountsBits table.now }
-    requires room { (before.differing.eights < most_eights) × (before.kept.eights < most_eights) }
-    ensures differing { held result.differing ≡ held before.differing
-        + (sum word_bits (bit a.differing) + sum word_bits (bit b.differing) + sum word_bits (bit c.differing) + sum word_bits (bit d.differing)
-        + sum word_bits (bit e.differing) + sum word_bits (bit f.differing) + sum word_bits (bit g.differing) + sum word_bits (bit h.differing)) }
-    ensures kept { held result.kept ≡ held before.kept
-        + (sum word_bits (bit a.kept) + sum word_bits (bit b.kept) + sum word_bits (bit c.kept) + sum word_bits (bit d.kept)
-        + sum word_bits (bit e.kept) + sum word_bits (bit f.kept) + sum word_bits (bit g.kept) + sum word_bits (bit h.kept)) }
-{
-    Counters {
-        differing: count_eight(
-            before.differing,
-            a.differing,
-            b.differing,
-            c.differing,
-            d.differing,
-            e.differing,
-            f.differing,
-            g.differing,
-            h.differing,
-            table,
-        ),
-        kept: count_eight(
-            before.kept,
-            a.kept,
-            b.kept,
-            c.kept,
-            d.kept,
-            e.kept,
-            f.kept,
-            g.kept,
-            h.kept,
-            table,
-        ),
-    }
-}
+impl Counters {
+    // Before the first word.
+    pub const NOTHING: Counters = Counters {
+        differing: Counter::NOTHING,
+        kept: Counter::NOTHING,
+    };
 
-// What both have counted.
-pub fn tally_held(c: Counters, table: &[u8; 256]) -> u64
-    requires table { CountsBits table.now }
-    requires room { (held c.differing < compared_unit) × (held c.kept < compared_unit) }
-    ensures { result ≡ tally (held c.differing) (held c.kept) }
-{
-    both_counts(count_held(c.differing, table), count_held(c.kept, table))
+    // Eight words more.
+    pub fn count_eight(
+        self,
+        a: Words,
+        b: Words,
+        c: Words,
+        d: Words,
+        e: Words,
+        f: Words,
+        g: Words,
+        h: Words,
+        table: &BitCounts,
+    ) -> Counters
+        requires room { (self.differing.eights < most_eights) × (self.kept.eights < most_eights) }
+        ensures differing { held result.differing ≡ held self.differing
+            + (sum word_bits (bit a.differing) + sum word_bits (bit b.differing) + sum word_bits (bit c.differing) + sum word_bits (bit d.differing)
+            + sum word_bits (bit e.differing) + sum word_bits (bit f.differing) + sum word_bits (bit g.differing) + sum word_bits (bit h.differing)) }
+        ensures kept { held result.kept ≡ held self.kept
+            + (sum word_bits (bit a.kept) + sum word_bits (bit b.kept) + sum word_bits (bit c.kept) + sum word_bits (bit d.kept)
+            + sum word_bits (bit e.kept) + sum word_bits (bit f.kept) + sum word_bits (bit g.kept) + sum word_bits (bit h.kept)) }
+    {
+        Counters {
+            differing: self.differing.count_eight(
+                a.differing,
+                b.differing,
+                c.differing,
+                d.differing,
+                e.differing,
+                f.differing,
+                g.differing,
+                h.differing,
+                table,
+            ),
+            kept: self.kept.count_eight(
+                a.kept, b.kept, c.kept, d.kept, e.kept, f.kept, g.kept, h.kept, table,
+            ),
+        }
+    }
+
+    // What both have counted.
+    pub fn tally(self, table: &BitCounts) -> u64
+        requires room { (held self.differing < compared_unit) × (held self.kept < compared_unit) }
+        ensures { result ≡ tally (held self.differing) (held self.kept) }
+    {
+        both_counts(self.differing.count(table), self.kept.count(table))
+    }
 }

@@ -5,12 +5,12 @@ use mathlib.Core.List.{List, [], ◌∷◌, ◌++◌}
 use Prim.Native.Nat.{ℕ, zero, suc, ◌+◌, ◌/◌, ◌%◌, ◌^◌, ◌≤◌, ◌<◌}
 use native.Mathlib.Nat.{pow-suc, div-lt_iff_lt-mul, mod-lt, div-add-mod}
 use native.Mathlib.Omega.{arith}
+use Rattle.std.proofs.Common.{Some}
 use lib.Dec.{ltb}
 use lib.ListN.{length, length-append}
 use lib.Seq.{take-append_seam}
 use borrow.Author.Tests.{le-leb, lt-ltb, le-ltb, ltb-true}
 use Rattle.text.specs.Digits.{zero_code, is_digit, leading, decimal, number_of, last_digits, digits}
-use Rattle.text.specs.declared.Number.{Number}
 use Rattle.text.proofs.ReadLaws.{leading-all, decimal-append}
 
 tenth : (n k : ℕ) → n < 10 ^ suc k → n / 10 < 10 ^ k
@@ -112,7 +112,7 @@ last-value (suc k) n l = split (ltb n 10) (last-value k (n / 10) (tenth n (suc k
     split false a = decimal-append 0 (last_digits (suc k) (n / 10)) (zero_code + n % 10) ∙ rw a (omega (arith, div-add-mod n 10))
 
 -- A number of nine digits at most, followed by no digit, is read as it was written.
-pub read-digits : (n : ℕ) (l : List ℕ) → n < 1000000000 → leading is_digit l ≡ 0 → number_of (digits n ++ l) ≡ Number.Read n (length (digits n))
+pub read-digits : (n : ℕ) (l : List ℕ) → n < 1000000000 → leading is_digit l ≡ 0 → number_of (digits n ++ l) ≡ Some (record { value = n; count = length (digits n) })
 unfolding number_of digits
 read-digits n l m e = rw (led, le-leb 1 _ (digits-none-empty n), le-leb _ 9 (digits-few 9 n (omega arith) m), take-append_seam, last-value 9 n (omega arith))
   where

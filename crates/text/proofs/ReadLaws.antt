@@ -1,13 +1,17 @@
 -- Laws of reading: the bytes that pass a test, and the number that digits spell.
-use mathlib.Core.Path.{◌≡◌, refl, sym}
+use mathlib.Core.Path.{◌≡◌, refl, sym, ap}
 use mathlib.Core.Bool.{Bool, true, false, ◌&&◌, cond, false≢true}
 use mathlib.Core.List.{List, [], ◌∷◌, ◌++◌}
 use Prim.Native.Nat.{ℕ, zero, suc, ◌+◌, ◌*◌, ◌-◌, ◌^◌, ◌≤◌, ◌<◌}
 use native.Mathlib.Nat.{pow-suc, pow-le-pow_right}
 use native.Mathlib.Numerals.{add-one}
 use native.Mathlib.Omega.{arith}
+use Rattle.std.proofs.Common.{Option, Some, None}
+use Rattle.std.proofs.lemmas.Option.{same_Some}
 use lib.Dec.{leb}
+use Rattle.std.specs.List.{prefix_len}
 use lib.ListN.{length, get_or, take, drop, drop_of_length-le}
+use Rattle.std.proofs.lemmas.List.{get_or-take, length-take-le}
 use lib.Seq.{take-suc, drop-cons}
 use borrow.Author.Tests.{leb-true}
 use Rattle.text.specs.Digits.{zero_code, is_digit, leading, decimal, number_of}
@@ -34,6 +38,16 @@ leading-nil p = refl
 pub leading-none : (p : ℕ → Bool) (b : ℕ) (l : List ℕ) → p b ≡ false → leading p (b ∷ l) ≡ 0
 unfolding leading
 leading-none p b l e = rw e
+
+-- std's word for the same number
+pub leading-prefix : (p : ℕ → Bool) (l : List ℕ) → leading p l ≡ prefix_len p l
+unfolding leading
+leading-prefix p [] = refl
+leading-prefix p (b ∷ l) = split (p b) (leading-prefix p l)
+  where
+    split : (t : Bool) → leading p l ≡ prefix_len p l → cond t (suc (leading p l)) 0 ≡ cond t (1 + prefix_len p l) 0
+    split true e = omega arith
+    split false e = refl
 
 -- Text of which every byte passes, and what follows it.
 pub leading-all : (p : ℕ → Bool) (a l : List ℕ) → leading p a ≡ length a → leading p (a ++ l) ≡ length a + leading p l
@@ -100,6 +114,24 @@ decimal-bound l (suc n) k =
     let e = pow-suc 10 n in
     rw (← add-one n, b, add-one n, e) (omega arith)
 
+-- What a turn of the loop over the first n digits meets: the digit, and room for it in 32 bits.
+pub record Turn (l : List ℕ) (n i : ℕ) : Type 0 where
+  pub low : 48 ≤ get_or (take n l) i 0
+  pub high : get_or (take n l) i 0 ≤ 57
+  pub small : decimal 0 (take i l) < 100000000
+  pub next : decimal 0 (take (i + 1) l) ≡ 10 * decimal 0 (take i l) + (get_or (take n l) i 0 - 48)
+
+pub turn : (l : List ℕ) (n i : ℕ) → n ≤ 9 → n ≤ leading is_digit l → i < length (take n l) → Turn l n i
+turn l n i few digits turning =
+    let long = leading-in is_digit l in
+    let below : i < n = omega (arith, length-take-le n l (omega arith)) in
+    let same : get_or (take n l) i 0 ≡ get_or l i 0 = get_or-take n l i 0 below in
+    let range = digit-range (get_or l i 0) (leading-pass is_digit l i (omega arith)) in
+    let power : 10 ^ i ≤ 10 ^ 8 = pow-le-pow_right {n = 10} (omega arith) {i = i} {j = 8} (omega arith) in
+    let bound = decimal-bound l i (omega arith) in
+    let next = decimal-next l i (omega arith) in
+    record { low = omega arith; high = omega arith; small = omega arith; next = rw same next }
+
 -- What is known of a number that was read.
 pub record Spelled (l : List ℕ) (value count : ℕ) : Type 0 where
   pub small : value < 1000000000
@@ -109,17 +141,20 @@ pub record Spelled (l : List ℕ) (value count : ℕ) : Type 0 where
   pub digits : count ≡ leading is_digit l
   pub is : value ≡ decimal 0 (take count l)
 
-pub read_ok : (l : List ℕ) (value count : ℕ) → number_of l ≡ Number.Read value count → Spelled l value count
+pub read_ok : (l : List ℕ) (number : Number) → number_of l ≡ Some number → Spelled l number.value number.count
 unfolding number_of
-read_ok l value count e = split (leb 1 n) (leb n 9) refl refl e
+read_ok l number e = split (leb 1 n) (leb n 9) refl refl e
   where
     n : ℕ
     n = leading is_digit l
 
-    split : (t u : Bool) → leb 1 n ≡ t → leb n 9 ≡ u → cond (t && u) (Number.Read (decimal 0 (take n l)) n) Number.Bad ≡ Number.Read value count → Spelled l value count
+    split : (t u : Bool) → leb 1 n ≡ t → leb n 9 ≡ u
+        → cond {A = Option Number} (t && u) (Some (record { value = decimal 0 (take n l); count = n })) None ≡ Some number
+        → Spelled l number.value number.count
     split true true a b e =
-        let same : n ≡ count = cc in
-        let spelled : decimal 0 (take n l) ≡ value = cc in
+        let read = same_Some _ _ e in
+        let same : n ≡ number.count = ap (λ (m : Number). m.count) read in
+        let spelled : decimal 0 (take n l) ≡ number.value = ap (λ (m : Number). m.value) read in
         let low = leb-true 1 n a in
         let high = leb-true n 9 b in
         let power : 10 ^ n ≤ 10 ^ 9 = pow-le-pow_right {n = 10} (omega arith) {i = n} {j = 9} high in
@@ -132,5 +167,5 @@ read_ok l value count e = split (leb 1 n) (leb n 9) refl refl e
           digits = sym same;
           is = rw (← same) (sym spelled);
         }
-    split true false a b e = absurd (let z : ◌≡◌ {A = ℕ} 0 1 = cc in omega arith)
-    split false u a b e = absurd (let z : ◌≡◌ {A = ℕ} 0 1 = cc in omega arith)
+    split true false a b e = cc
+    split false u a b e = cc

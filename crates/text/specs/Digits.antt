@@ -1,5 +1,5 @@
 -- Decimal numbers as bytes: how document 01's files and lines spell them.
-use Rattle.std.specs.Prelude.{Bool, ◌&&◌, cond, List, [], ◌∷◌, ◌++◌, ℕ, zero, suc, ◌+◌, ◌*◌, ◌-◌, ◌/◌, ◌%◌, ltb, leb, take}
+use Rattle.std.specs.Prelude.{Bool, ◌&&◌, cond, Option, Some, None, List, [], ◌∷◌, ◌++◌, ℕ, zero, suc, ◌+◌, ◌*◌, ◌-◌, ◌/◌, ◌%◌, ltb, leb, take}
 use Rattle.text.specs.declared.Number.{Number}
 
 -- the code of the digit d, and back
@@ -21,8 +21,8 @@ decimal v (d ∷ l) = decimal (10 * v + (d - zero_code)) l
 
 -- "A number has one to nine decimal digits; leading zeros are allowed and count among the nine, so 0255 is 255."
 -- The number that bytes begin with, and how many bytes it takes: all digits up to the first byte that is none.
-unfoldable pub number_of : List ℕ → Number
-number_of l = let n = leading is_digit l in cond (leb 1 n && leb n 9) (Number.Read (decimal 0 (take n l)) n) Number.Bad
+unfoldable pub number_of : List ℕ → Option Number
+number_of l = let n = leading is_digit l in cond (leb 1 n && leb n 9) (Some (record { value = decimal 0 (take n l); count = n })) None
 
 -- the last digits of n, k at most, "no leading zeros"
 unfoldable pub last_digits : ℕ → ℕ → List ℕ

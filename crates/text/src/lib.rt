@@ -10,29 +10,15 @@ const MAX_DIGITS: usize = 9;
 
 // A number of one to nine digits at the beginning of some bytes, and how many bytes it takes.
 #[derive(Clone, Copy)]
-pub enum Number {
-    Read { value: u32, count: usize },
-    Bad,
-}
-
-#[tactic(auto, unfolding(crate::specs::Digits::is_digit))]
-fn is_digit(b: u8) -> bool
-    ensures { result ≡ is_digit b }
-{
-    b'0' <= b && b <= b'9'
+pub struct Number {
+    pub value: u32,
+    pub count: usize,
 }
 
 fn leading_digits(bytes: &[u8]) -> usize
     ensures { result ≡ leading is_digit bytes.now }
 {
-    let mut n: usize = 0;
-    while n < bytes.len() {
-        if !is_digit(bytes[n]) {
-            return n;
-        }
-        n += 1;
-    }
-    n
+    bytes.iter().take_while(|b| b.is_ascii_digit()).count()
 }
 
 // The number that the first n bytes spell.
@@ -42,28 +28,22 @@ fn value_of(bytes: &[u8], n: usize) -> u32
     ensures { result ≡ decimal 0 (take n bytes.now) }
 {
     let mut value: u32 = 0;
-    let mut i: usize = 0;
-    while i < n {
-        value = 10 * value + ((bytes[i] - b'0') as u32);
-        i += 1;
+    for digit in &bytes[..n] {
+        value = 10 * value + u32::from(*digit - b'0');
     }
     value
 }
 
-pub fn read_number(bytes: &[u8]) -> Number
+#[tactic(auto, unfolding(crate::specs::Digits::number_of))]
+pub fn read_number(bytes: &[u8]) -> Option<Number>
     ensures { result ≡ number_of bytes.now }
 {
     let count = leading_digits(bytes);
-    if count == 0 {
-        return Number::Bad;
+    if count == 0 || MAX_DIGITS < count {
+        return None;
     }
-    if MAX_DIGITS < count {
-        return Number::Bad;
-    }
-    Number::Read {
-        value: value_of(bytes, count),
-        count,
-    }
+    let value = value_of(bytes, count);
+    Some(Number { value, count })
 }
 
 // Puts a text at place `at`, and answers the place after it.
@@ -72,12 +52,9 @@ pub fn put(out: &mut [u8], at: usize, text: &[u8]) -> usize
     ensures place { result ≡ at + length text.now }
     ensures output { Put at text.now out.old out.new }
 {
-    let mut i: usize = 0;
-    while i < text.len() {
-        out[at + i] = text[i];
-        i += 1;
-    }
-    at + i
+    let end = at + text.len();
+    out[at..end].copy_from_slice(text);
+    end
 }
 
 // The number of digits that put_number writes.

@@ -1,3 +1,2 @@
 -- Laws of the total of a bitmap.
 pub mod TotalLaws
-pub mod CountAnswerLaws

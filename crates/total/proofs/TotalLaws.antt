@@ -4,7 +4,8 @@ use mathlib.Core.List.{List}
 use Prim.Native.Nat.{ℕ, ◌+◌, ◌*◌, ◌-◌, ◌≤◌, ◌<◌}
 use native.Mathlib.Omega.{arith}
 use lib.Dec.{ltb}
-use lib.ListN.{get_or}
+use lib.ListN.{length, take, drop, get_or}
+use Rattle.std.proofs.lemmas.List.{length-take, length-drop, get_or-take, get_or-drop}
 use Rattle.rules.specs.Sums.{gate, sum, row_sum, sum_pixels}
 use Rattle.rules.specs.Planes.{total}
 use Rattle.rules.specs.Bitmaps.{bit, bit_at, row_words}
@@ -54,3 +55,12 @@ total-row w w' h y base words l e b =
 pub total-whole : (w h : ℕ) (words : List ℕ) → sum h (row_sum w (bit_at w h words)) ≡ total w h (bit_at w h words)
 unfolding total sum_pixels
 total-whole w h words = refl
+
+-- the full words of a row, lent
+pub lent-full : (words : List ℕ) (base last : ℕ) → base + last < length words → length (take (base + last - base) (drop base words)) ≡ last
+lent-full words base last l = omega (arith, length-take (base + last - base) (drop base words), length-drop base words)
+
+pub lent_word : (words : List ℕ) (base last k : ℕ) → base + last < length words → k < last
+    → get_or (take (base + last - base) (drop base words)) k 0 ≡ get_or words (base + k) 0
+lent_word words base last k l m =
+    get_or-take (base + last - base) (drop base words) k 0 (omega arith) ∙ get_or-drop base words k 0

@@ -1,6 +1,7 @@
-// Lent buffers and what they hold before a call; inputs that are not bytes.
+// Lent buffers: what they hold before a call and after it; inputs that are not bytes.
 
-use vectors_data::data::{input_on, number_of, second, signed, word_of};
+use crate::element::{Element, Lent, load};
+use vectors_data::record::{Input, Output, Record};
 
 // Each element of a lent buffer of these.
 const WORD: u64 = 0xA5A5A5A5A5A5A5A5;
@@ -12,107 +13,39 @@ pub const COMPARED: u32 = 0xB4B4B4B4;
 pub const OFFSET: i32 = 0x5A5A5A5A;
 
 pub fn fill_bytes(out: &mut [u8]) {
-    let mut i: usize = 0;
-    while i < out.len() {
-        out[i] = (i % 251) as u8;
-        i += 1;
+    for (i, byte) in out.iter_mut().enumerate() {
+        *byte = (i % 251) as u8;
     }
 }
 
-fn fill_words(out: &mut [u64]) {
-    let mut i: usize = 0;
-    while i < out.len() {
-        out[i] = WORD;
-        i += 1;
-    }
-}
-
-// The bytes as 64-bit numbers; past them 0.
-fn load_words(bytes: &[u8], out: &mut [u64]) {
-    let mut i: usize = 0;
-    while i < out.len() {
-        out[i] = word_of(bytes, i);
-        i += 1;
-    }
-}
-
-// The bytes as 32-bit numbers; past them 0.
-fn load_numbers(bytes: &[u8], out: &mut [u32]) {
-    let mut i: usize = 0;
-    while i < out.len() {
-        out[i] = number_of(bytes, i);
-        i += 1;
-    }
-}
-
-// The bytes as signed 32-bit numbers; past them 0.
-fn load_offsets(bytes: &[u8], out: &mut [i32]) {
-    let mut i: usize = 0;
-    while i < out.len() {
-        out[i] = signed(number_of(bytes, i));
-        i += 1;
-    }
-}
-
-// The first n elements of a buffer, filled; where there are fewer, none, so that the comparison of lengths fails.
-pub fn lend_bytes(memory: &mut [u8], n: usize) -> &mut [u8] {
+// The first n elements of a memory; where there are fewer, none, so that the comparison of lengths fails.
+pub fn lend<T>(memory: &mut [T], n: usize) -> &mut [T] {
     if memory.len() < n {
-        return &mut memory[0..0];
+        return &mut memory[..0];
     }
-    fill_bytes(&mut memory[0..n]);
-    &mut memory[0..n]
+    &mut memory[..n]
+}
+
+pub fn lend_bytes(memory: &mut [u8], n: usize) -> &mut [u8] {
+    let lent = lend(memory, n);
+    fill_bytes(lent);
+    lent
 }
 
 pub fn lend_words(memory: &mut [u64], n: usize) -> &mut [u64] {
-    if memory.len() < n {
-        return &mut memory[0..0];
-    }
-    fill_words(&mut memory[0..n]);
-    &mut memory[0..n]
+    let lent = lend(memory, n);
+    lent.fill(WORD);
+    lent
 }
 
-// The first n elements of a room that holds COUNT, COMPARED or OFFSET.
-pub fn lend_counts(room: &mut [u32], n: usize) -> &mut [u32] {
-    if room.len() < n {
-        return &mut room[0..0];
-    }
-    &mut room[0..n]
+// An input of the record, in a room; where that is too short, nothing.
+pub fn input<'a, T: Element>(record: Record<'_>, input: Input, room: &'a mut [T]) -> &'a mut [T] {
+    let loaded = lend(room, record.input_length(input));
+    load(record.input_on(input), loaded);
+    loaded
 }
 
-pub fn lend_offsets(room: &mut [i32], n: usize) -> &mut [i32] {
-    if room.len() < n {
-        return &mut room[0..0];
-    }
-    &mut room[0..n]
-}
-
-// Input k of the record, in a room; where that is too short, nothing.
-pub fn input_words<'a>(data: &[u8], at: usize, k: usize, room: &'a mut [u64]) -> &'a [u64] {
-    let n = second(data, at, k);
-    load_words(input_on(data, at, k), room);
-    let loaded = &room[..];
-    if loaded.len() < n {
-        return &loaded[0..0];
-    }
-    &loaded[0..n]
-}
-
-pub fn input_numbers<'a>(data: &[u8], at: usize, k: usize, room: &'a mut [u32]) -> &'a [u32] {
-    let n = second(data, at, k);
-    load_numbers(input_on(data, at, k), room);
-    let loaded = &room[..];
-    if loaded.len() < n {
-        return &loaded[0..0];
-    }
-    &loaded[0..n]
-}
-
-pub fn input_offsets<'a>(data: &[u8], at: usize, k: usize, room: &'a mut [i32]) -> &'a [i32] {
-    let n = second(data, at, k);
-    load_offsets(input_on(data, at, k), room);
-    let loaded = &room[..];
-    if loaded.len() < n {
-        return &loaded[0..0];
-    }
-    &loaded[0..n]
+// Whether a buffer is an output of the record: its length, and what it holds.
+pub fn is_output<T: Lent>(buffer: &[T], record: Record<'_>, output: Output) -> bool {
+    buffer.len() == record.output_length(output) && T::holds(buffer, record.contents(output))
 }

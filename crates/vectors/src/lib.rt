@@ -3,6 +3,9 @@
 // tests/ gave. tests/FORMAT.md describes the files.
 #![tactic(auto)]
 
-pub mod answers;
+pub mod agreement;
+pub mod alignment;
 pub mod buffers;
-pub mod contents;
+pub mod element;
+pub mod outcome;
+pub mod work;

@@ -1,149 +1,136 @@
 // Test vectors of bitmaps, shift, total and difference.
 #![tactic(auto)]
 
-use rules::{Counted, Tallied, Written};
 use std::io;
 use std::rt::Files;
-use vectors::answers::{DIFFERS, number_when, written};
-use vectors::buffers::{input_words, lend_words};
-use vectors::contents::words_are;
-use vectors_data::data::{
-    CALL, HEIGHT, INPUT1, INPUT2, INPUT3, INPUT4, MOVE_X, MOVE_Y, OUTPUT1, OUTPUT2, PERCENTILE,
-    REFUSAL, TOLERANCE, VALUE1, VALUE2, WIDTH, field, input, read_vectors, record_at, record_count,
-    signed, size,
-};
-use vectors_data::tally;
+use vectors::buffers::{input, is_output, lend_words};
+use vectors::outcome::Outcome;
+use vectors_data::file::read_vectors;
+use vectors_data::record::{Field, Input, Output, Record};
+use vectors_data::run::run_records;
 
 const DATA_MEMORY: usize = 320000;
 
 // The most words of a stored bitmap.
 const MOST_WORDS: usize = 128;
 
-// Size and move of a record.
 #[derive(Clone, Copy)]
-struct Setup {
-    w: usize,
-    h: usize,
-    dx: i32,
-    dy: i32,
-}
-
-fn setup_of(data: &[u8], at: usize) -> Setup {
-    Setup {
-        w: size(data, at, WIDTH),
-        h: size(data, at, HEIGHT),
-        dx: signed(field(data, at, MOVE_X)),
-        dy: signed(field(data, at, MOVE_Y)),
-    }
-}
-
-fn bitmaps_of(data: &[u8], at: usize, thresholds: &mut [u64], exclusions: &mut [u64]) -> Written {
-    let set = setup_of(data, at);
-    let threshold = (field(data, at, PERCENTILE) % 256) as u8;
-    let tolerance = field(data, at, TOLERANCE);
-    let grey = input(data, at, INPUT1);
-    pack::bitmaps(
-        set.w, set.h, threshold, tolerance, grey, thresholds, exclusions,
-    )
-}
-
-fn bitmaps_number(data: &[u8], at: usize, thresholds: &mut [u64]) -> u32 {
-    let mut room = [0u64; MOST_WORDS];
-    let exclusions = lend_words(&mut room, size(data, at, OUTPUT2));
-    let answer = bitmaps_of(data, at, thresholds, exclusions);
-    if words_are(exclusions, data, at, OUTPUT2) {
-        return written(answer);
-    }
-    DIFFERS
-}
-
-fn shift_number(data: &[u8], at: usize, out: &mut [u64]) -> u32 {
-    let set = setup_of(data, at);
-    let mut room = [0u64; MOST_WORDS];
-    let bits = input_words(data, at, INPUT1, &mut room);
-    written(shift::shift(set.w, set.h, set.dx, set.dy, bits, out))
-}
-
-fn counted(answer: Counted, count: u32) -> u32 {
-    match answer {
-        Counted::Count(n) => number_when(n == count),
-        Counted::Refused(n) => n,
-    }
-}
-
-fn total_number(data: &[u8], at: usize) -> u32 {
-    let set = setup_of(data, at);
-    let mut room = [0u64; MOST_WORDS];
-    let bits = input_words(data, at, INPUT1, &mut room);
-    counted(total::total(set.w, set.h, bits), field(data, at, VALUE1))
-}
-
-// The bitmaps of the second frame are read here, those of the first below.
-fn difference_with(data: &[u8], at: usize, threshold1: &[u64], exclusion1: &[u64]) -> Tallied {
-    let set = setup_of(data, at);
-    let mut room1 = [0u64; MOST_WORDS];
-    let mut room2 = [0u64; MOST_WORDS];
-    let threshold2 = input_words(data, at, INPUT3, &mut room1);
-    let exclusion2 = input_words(data, at, INPUT4, &mut room2);
-    difference::difference(
-        set.w, set.h, set.dx, set.dy, threshold1, exclusion1, threshold2, exclusion2,
-    )
-}
-
-fn tallied_as(data: &[u8], at: usize, count: u32, compared: u32) -> bool {
-    count == field(data, at, VALUE1) && compared == field(data, at, VALUE2)
-}
-
-fn tallied(answer: Tallied, data: &[u8], at: usize) -> u32 {
-    match answer {
-        Tallied::Tally(found) => number_when(tallied_as(data, at, found.count, found.compared)),
-        Tallied::Refused(n) => n,
-    }
-}
-
-fn difference_number(data: &[u8], at: usize) -> u32 {
-    let mut room1 = [0u64; MOST_WORDS];
-    let mut room2 = [0u64; MOST_WORDS];
-    let threshold1 = input_words(data, at, INPUT1, &mut room1);
-    let exclusion1 = input_words(data, at, INPUT2, &mut room2);
-    tallied(difference_with(data, at, threshold1, exclusion1), data, at)
+enum Call {
+    Bitmaps,
+    Shift,
+    Total,
+    Difference,
 }
 
 // Calls have the numbers of tests/FORMAT.md.
-fn call_number(data: &[u8], at: usize, out: &mut [u64]) -> u32 {
-    match field(data, at, CALL) {
-        4 => bitmaps_number(data, at, out),
-        5 => shift_number(data, at, out),
-        6 => total_number(data, at),
-        7 => difference_number(data, at),
-        _ => DIFFERS,
+impl TryFrom<u32> for Call {
+    type Error = ();
+
+    fn try_from(number: u32) -> Result<Self, ()> {
+        match number {
+            4 => Ok(Call::Bitmaps),
+            5 => Ok(Call::Shift),
+            6 => Ok(Call::Total),
+            7 => Ok(Call::Difference),
+            _ => Err(()),
+        }
     }
 }
 
-// Whether the library agrees with the record at a place.
-fn agrees(data: &[u8], at: usize) -> bool {
+// The two bitmaps of a frame.
+#[derive(Clone, Copy)]
+struct Bitmaps<'a> {
+    threshold: &'a [u64],
+    exclusion: &'a [u64],
+}
+
+fn bitmaps_outcome(record: Record<'_>, thresholds: &mut [u64]) -> Outcome {
     let mut room = [0u64; MOST_WORDS];
-    let out = lend_words(&mut room, size(data, at, OUTPUT1));
-    let n = call_number(data, at, out);
-    n == field(data, at, REFUSAL) && words_are(out, data, at, OUTPUT1)
+    let exclusions = lend_words(&mut room, record.output_length(Output::Second));
+    let answer = pack::bitmaps(
+        record.size(Field::Width),
+        record.size(Field::Height),
+        (record.number(Field::Percentile) % 256) as u8,
+        record.number(Field::Tolerance),
+        record.input(Input::First),
+        thresholds,
+        exclusions,
+    );
+    Outcome::of(answer, ()).when(is_output(exclusions, record, Output::Second))
 }
 
-fn run_records(rt: &impl Print, data: &[u8]) -> io::Result<()> {
-    let count = record_count(data);
-    let mut tally = tally::start();
-    let mut k: u32 = 0;
-    while k < count {
-        let same = agrees(data, record_at(data, k));
-        tally = tally::add_record(rt, tally, data, same)?;
-        k += 1;
+fn shift_outcome(record: Record<'_>, out: &mut [u64]) -> Outcome {
+    let mut room = [0u64; MOST_WORDS];
+    let answer = shift::shift(
+        record.size(Field::Width),
+        record.size(Field::Height),
+        record.signed(Field::MoveX),
+        record.signed(Field::MoveY),
+        input(record, Input::First, &mut room),
+        out,
+    );
+    Outcome::of(answer, ())
+}
+
+fn total_outcome(record: Record<'_>) -> Outcome {
+    let mut room = [0u64; MOST_WORDS];
+    let bits = input(record, Input::First, &mut room);
+    let answer = total::total(record.size(Field::Width), record.size(Field::Height), bits);
+    Outcome::of(answer, record.number(Field::Value1))
+}
+
+fn difference_of(record: Record<'_>, first: Bitmaps<'_>, second: Bitmaps<'_>) -> Outcome {
+    let answer = difference::difference(
+        record.size(Field::Width),
+        record.size(Field::Height),
+        record.signed(Field::MoveX),
+        record.signed(Field::MoveY),
+        first.threshold,
+        first.exclusion,
+        second.threshold,
+        second.exclusion,
+    );
+    let expected = (record.number(Field::Value1), record.number(Field::Value2));
+    Outcome::of(answer.map(|tally| (tally.count, tally.compared)), expected)
+}
+
+fn difference_outcome(record: Record<'_>) -> Outcome {
+    let mut room1 = [0u64; MOST_WORDS];
+    let mut room2 = [0u64; MOST_WORDS];
+    let mut room3 = [0u64; MOST_WORDS];
+    let mut room4 = [0u64; MOST_WORDS];
+    let first = Bitmaps {
+        threshold: input(record, Input::First, &mut room1),
+        exclusion: input(record, Input::Second, &mut room2),
+    };
+    let second = Bitmaps {
+        threshold: input(record, Input::Third, &mut room3),
+        exclusion: input(record, Input::Fourth, &mut room4),
+    };
+    difference_of(record, first, second)
+}
+
+fn outcome(record: Record<'_>, out: &mut [u64]) -> Outcome {
+    match Call::try_from(record.number(Field::Call)) {
+        Ok(Call::Bitmaps) => bitmaps_outcome(record, out),
+        Ok(Call::Shift) => shift_outcome(record, out),
+        Ok(Call::Total) => total_outcome(record),
+        Ok(Call::Difference) => difference_outcome(record),
+        Err(()) => Outcome::Differs,
     }
-    tally::say_all(rt, tally)
+}
+
+// Whether the library agrees with the record.
+fn agrees(record: Record<'_>) -> bool {
+    let mut room = [0u64; MOST_WORDS];
+    let out = lend_words(&mut room, record.output_length(Output::First));
+    outcome(record, out).is_expected(record) && is_output(out, record, Output::First)
 }
 
 // An array of this size becomes a slice only here: the prover need not look at its elements.
 fn run(rt: &(impl Files + Print), data: &mut [u8; DATA_MEMORY]) -> io::Result<()> {
     read_vectors(rt, data);
-    run_records(rt, data)
+    run_records(rt, data, |_, _| {}, agrees)
 }
 
 fn main(rt: HostRuntime) -> io::Result<()> {

@@ -2,5 +2,8 @@
 // the files.
 #![tactic(auto)]
 
-pub mod data;
+pub mod file;
+pub mod numbers;
+pub mod record;
+pub mod run;
 pub mod tally;

@@ -1,21 +1,15 @@
 // Test vectors of the P6 reader and writer, and of what shows a result: common area, moved frame, blink row.
 #![tactic(auto)]
 
-use area::Common;
-use blink::Row;
-use ppm_read::SizeRead;
-use ppm_write::FileWritten;
 use std::io;
 use std::rt::Files;
-use vectors::answers::{DIFFERS, number_when, written};
-use vectors::buffers::{input_offsets, lend_bytes};
-use vectors::contents::{bytes_are, part_is};
-use vectors_data::data::{
-    CALL, FRAMES, HALVINGS, HEIGHT, INPUT1, INPUT2, MOVE_X, MOVE_Y, OUTPUT1, REFERENCE, REFUSAL,
-    VALUE1, VALUE2, VALUE3, VALUE4, WIDTH, field, input, read_vectors, record_at, record_count,
-    signed, size,
-};
-use vectors_data::tally;
+use vectors::agreement::agrees_writing;
+use vectors::buffers::input;
+use vectors::outcome::Outcome;
+use vectors_data::file::read_vectors;
+use vectors_data::numbers::part;
+use vectors_data::record::{Field, Input, Record};
+use vectors_data::run::run_records;
 
 const DATA_MEMORY: usize = 490000;
 
@@ -23,156 +17,117 @@ const BYTE_MEMORY: usize = 16384;
 
 const MOST_OFFSETS: usize = 64;
 
-// Width and height of a record.
 #[derive(Clone, Copy)]
-struct Sides {
-    w: usize,
-    h: usize,
-}
-
-fn sides_of(data: &[u8], at: usize) -> Sides {
-    Sides {
-        w: size(data, at, WIDTH),
-        h: size(data, at, HEIGHT),
-    }
-}
-
-// The four expected values of a record.
-#[derive(Clone, Copy)]
-struct Values {
-    one: usize,
-    two: usize,
-    three: usize,
-    four: usize,
-}
-
-fn values_of(data: &[u8], at: usize) -> Values {
-    Values {
-        one: size(data, at, VALUE1),
-        two: size(data, at, VALUE2),
-        three: size(data, at, VALUE3),
-        four: size(data, at, VALUE4),
-    }
-}
-
-// A refused call hands back an empty part.
-fn refused_part(n: u32, handed: usize) -> u32 {
-    if handed == 0 { n } else { DIFFERS }
-}
-
-fn size_answer(answer: SizeRead, expected: Values, same: bool, handed: usize) -> u32 {
-    match answer {
-        SizeRead::Frame(size) => {
-            number_when(same && size.w == expected.one && size.h == expected.two)
-        }
-        SizeRead::Refused(n) => refused_part(n, handed),
-    }
-}
-
-fn read_number(data: &[u8], at: usize) -> u32 {
-    let file = input(data, at, INPUT1);
-    let expected = values_of(data, at);
-    let raster = ppm_read::p6_raster(file);
-    let same = part_is(raster, file, expected.three, expected.four);
-    size_answer(ppm_read::p6_size(file), expected, same, raster.len())
-}
-
-fn write_answer(answer: FileWritten, bytes: usize) -> u32 {
-    match answer {
-        FileWritten::Bytes(n) => number_when(n == bytes),
-        FileWritten::Refused(n) => n,
-    }
-}
-
-fn write_number(data: &[u8], at: usize, out: &mut [u8]) -> u32 {
-    let sides = sides_of(data, at);
-    let raster = input(data, at, INPUT1);
-    let answer = ppm_write::p6_write(sides.w, sides.h, raster, out);
-    write_answer(answer, size(data, at, VALUE1))
-}
-
-fn common(answer: Common, expected: Values) -> u32 {
-    match answer {
-        Common::Area(area) => number_when(
-            area.left == expected.one
-                && area.right == expected.two
-                && area.top == expected.three
-                && area.bottom == expected.four,
-        ),
-        Common::Refused(n) => n,
-    }
-}
-
-fn area_number(data: &[u8], at: usize) -> u32 {
-    let sides = sides_of(data, at);
-    let n = size(data, at, FRAMES);
-    let mut room = [0i32; MOST_OFFSETS];
-    let offsets = input_offsets(data, at, INPUT1, &mut room);
-    let answer = area::common_area(sides.w, sides.h, n, offsets);
-    common(answer, values_of(data, at))
-}
-
-fn moved_number(data: &[u8], at: usize, out: &mut [u8]) -> u32 {
-    let sides = sides_of(data, at);
-    let dx = signed(field(data, at, MOVE_X));
-    let dy = signed(field(data, at, MOVE_Y));
-    let raster = input(data, at, INPUT1);
-    written(moved::moved(sides.w, sides.h, dx, dy, raster, out))
-}
-
-fn row_number(data: &[u8], at: usize, answer: Row, row: &[u8], chosen: &[u8]) -> u32 {
-    let start = size(data, at, VALUE1);
-    let same = part_is(row, chosen, start, size(data, at, VALUE2));
-    match answer {
-        Row::At(from) => number_when(same && from == start),
-        Row::Refused(n) => refused_part(n, row.len()),
-    }
-}
-
-// The row of the raster that the record chooses.
-fn blink_number(data: &[u8], at: usize) -> u32 {
-    let sides = sides_of(data, at);
-    let y = size(data, at, REFERENCE);
-    let first = input(data, at, INPUT1);
-    let second = input(data, at, INPUT2);
-    let answer = blink::blink_start(sides.w, sides.h, y, first, second);
-    let other = field(data, at, HALVINGS) == 1;
-    let row = blink::blink_row(sides.w, sides.h, y, other, first, second);
-    if other {
-        return row_number(data, at, answer, row, second);
-    }
-    row_number(data, at, answer, row, first)
+enum Call {
+    Read,
+    Write,
+    Area,
+    Moved,
+    Blink,
 }
 
 // Calls have the numbers of tests/FORMAT.md.
-fn call_number(data: &[u8], at: usize, out: &mut [u8]) -> u32 {
-    match field(data, at, CALL) {
-        12 => read_number(data, at),
-        13 => write_number(data, at, out),
-        14 => area_number(data, at),
-        15 => moved_number(data, at, out),
-        16 => blink_number(data, at),
-        _ => DIFFERS,
+impl TryFrom<u32> for Call {
+    type Error = ();
+
+    fn try_from(number: u32) -> Result<Self, ()> {
+        match number {
+            12 => Ok(Call::Read),
+            13 => Ok(Call::Write),
+            14 => Ok(Call::Area),
+            15 => Ok(Call::Moved),
+            16 => Ok(Call::Blink),
+            _ => Err(()),
+        }
     }
 }
 
-// Whether the library agrees with the record at a place.
-fn agrees(data: &[u8], at: usize, memory: &mut [u8]) -> bool {
-    let out = lend_bytes(memory, size(data, at, OUTPUT1));
-    let n = call_number(data, at, out);
-    n == field(data, at, REFUSAL) && bytes_are(out, data, at, OUTPUT1)
+// Whether a part that was handed back is the one from `start` on, of this length.
+fn is_part(handed: &[u8], whole: &[u8], start: usize, length: usize) -> bool {
+    handed.len() == length && handed == part(whole, start, length)
 }
 
-fn run_records(rt: &impl Print, data: &[u8], memory: &mut [u8]) -> io::Result<()> {
-    let count = record_count(data);
-    let mut tally = tally::start();
-    let mut k: u32 = 0;
-    while k < count {
-        let same = agrees(data, record_at(data, k), memory);
-        tally = tally::add_record(rt, tally, data, same)?;
-        k += 1;
+// Of a call that also hands back a part: `same` says whether that is the expected one. A refused call's is empty.
+fn with_part(outcome: Outcome, handed: &[u8], same: bool) -> Outcome {
+    match outcome {
+        Outcome::Refused(_) => outcome.when(handed.is_empty()),
+        _ => outcome.when(same),
     }
-    tally::say_all(rt, tally)
+}
+
+fn read_outcome(record: Record<'_>) -> Outcome {
+    let file = record.input(Input::First);
+    let raster = ppm_read::p6_raster(file);
+    let size = ppm_read::p6_size(file).map(|size| (size.w, size.h));
+    let expected = (record.size(Field::Value1), record.size(Field::Value2));
+    let start = record.size(Field::Value3);
+    let same = is_part(raster, file, start, record.size(Field::Value4));
+    with_part(Outcome::of(size, expected), raster, same)
+}
+
+fn write_outcome(record: Record<'_>, out: &mut [u8]) -> Outcome {
+    let w = record.size(Field::Width);
+    let h = record.size(Field::Height);
+    let answer = ppm_write::p6_write(w, h, record.input(Input::First), out);
+    Outcome::of(answer, record.size(Field::Value1))
+}
+
+fn area_outcome(record: Record<'_>) -> Outcome {
+    let mut room = [0i32; MOST_OFFSETS];
+    let offsets = input(record, Input::First, &mut room);
+    let answer = area::common_area(
+        record.size(Field::Width),
+        record.size(Field::Height),
+        record.size(Field::Frames),
+        offsets,
+    );
+    let sides = answer.map(|area| (area.left, area.right, area.top, area.bottom));
+    let expected = (
+        record.size(Field::Value1),
+        record.size(Field::Value2),
+        record.size(Field::Value3),
+        record.size(Field::Value4),
+    );
+    Outcome::of(sides, expected)
+}
+
+fn moved_outcome(record: Record<'_>, out: &mut [u8]) -> Outcome {
+    let answer = moved::moved(
+        record.size(Field::Width),
+        record.size(Field::Height),
+        record.signed(Field::MoveX),
+        record.signed(Field::MoveY),
+        record.input(Input::First),
+        out,
+    );
+    Outcome::of(answer, ())
+}
+
+// The row of the raster that the record chooses.
+fn blink_outcome(record: Record<'_>) -> Outcome {
+    let w = record.size(Field::Width);
+    let h = record.size(Field::Height);
+    let y = record.size(Field::Reference);
+    let first = record.input(Input::First);
+    let second = record.input(Input::Second);
+    let other = record.number(Field::Halvings) == 1;
+    let answer = blink::blink_start(w, h, y, first, second);
+    let row = blink::blink_row(w, h, y, other, first, second);
+    let chosen = if other { second } else { first };
+    let start = record.size(Field::Value1);
+    let same = is_part(row, chosen, start, record.size(Field::Value2));
+    with_part(Outcome::of(answer, start), row, same)
+}
+
+fn outcome(record: Record<'_>, out: &mut [u8]) -> Outcome {
+    match Call::try_from(record.number(Field::Call)) {
+        Ok(Call::Read) => read_outcome(record),
+        Ok(Call::Write) => write_outcome(record, out),
+        Ok(Call::Area) => area_outcome(record),
+        Ok(Call::Moved) => moved_outcome(record, out),
+        Ok(Call::Blink) => blink_outcome(record),
+        Err(()) => Outcome::Differs,
+    }
 }
 
 // Arrays of this size become slices only here: the prover need not look at their elements.
@@ -182,7 +137,12 @@ fn run(
     memory: &mut [u8; BYTE_MEMORY],
 ) -> io::Result<()> {
     read_vectors(rt, data);
-    run_records(rt, data, memory)
+    run_records(
+        rt,
+        data,
+        |_, _| {},
+        |record| agrees_writing(record, memory, outcome),
+    )
 }
 
 fn main(rt: HostRuntime) -> io::Result<()> {

@@ -1,76 +1,60 @@
 // Test vectors of grey conversion, halving and threshold.
 #![tactic(auto)]
 
-use rules::Thresholded;
 use std::io;
 use std::rt::Files;
-use vectors::answers::{DIFFERS, number_when, written};
-use vectors::buffers::lend_bytes;
-use vectors::contents::bytes_are;
-use vectors_data::data::{
-    CALL, HEIGHT, INPUT1, OUTPUT1, PERCENTILE, REFUSAL, VALUE1, WIDTH, field, input, read_vectors,
-    record_at, record_count, size,
-};
-use vectors_data::tally;
+use vectors::agreement::agrees_writing;
+use vectors::outcome::Outcome;
+use vectors_data::file::read_vectors;
+use vectors_data::record::{Field, Input, Record};
+use vectors_data::run::run_records;
 
 const DATA_MEMORY: usize = 140000;
 
 const BYTE_MEMORY: usize = 4096;
 
-fn grey_number(data: &[u8], at: usize, out: &mut [u8]) -> u32 {
-    let w = size(data, at, WIDTH);
-    let raster = input(data, at, INPUT1);
-    written(grey::to_grey(w, size(data, at, HEIGHT), raster, out))
-}
-
-fn halve_number(data: &[u8], at: usize, out: &mut [u8]) -> u32 {
-    let w = size(data, at, WIDTH);
-    let grey = input(data, at, INPUT1);
-    written(halve::halve(w, size(data, at, HEIGHT), grey, out))
-}
-
-fn thresholded(answer: Thresholded, threshold: u32) -> u32 {
-    match answer {
-        Thresholded::At(t) => number_when(t as u32 == threshold),
-        Thresholded::Refused(n) => n,
-    }
-}
-
-fn threshold_number(data: &[u8], at: usize) -> u32 {
-    let grey = input(data, at, INPUT1);
-    let percentile = field(data, at, PERCENTILE);
-    let w = size(data, at, WIDTH);
-    let answer = threshold::threshold(w, size(data, at, HEIGHT), percentile, grey);
-    thresholded(answer, field(data, at, VALUE1))
+#[derive(Clone, Copy)]
+enum Call {
+    Grey,
+    Halve,
+    Threshold,
 }
 
 // Calls have the numbers of tests/FORMAT.md.
-fn call_number(data: &[u8], at: usize, out: &mut [u8]) -> u32 {
-    match field(data, at, CALL) {
-        1 => grey_number(data, at, out),
-        2 => halve_number(data, at, out),
-        3 => threshold_number(data, at),
-        _ => DIFFERS,
+impl TryFrom<u32> for Call {
+    type Error = ();
+
+    fn try_from(number: u32) -> Result<Self, ()> {
+        match number {
+            1 => Ok(Call::Grey),
+            2 => Ok(Call::Halve),
+            3 => Ok(Call::Threshold),
+            _ => Err(()),
+        }
     }
 }
 
-// Whether the library agrees with the record at a place.
-fn agrees(data: &[u8], at: usize, memory: &mut [u8]) -> bool {
-    let out = lend_bytes(memory, size(data, at, OUTPUT1));
-    let n = call_number(data, at, out);
-    n == field(data, at, REFUSAL) && bytes_are(out, data, at, OUTPUT1)
+fn threshold_outcome(record: Record<'_>) -> Outcome {
+    let answer = threshold::threshold(
+        record.size(Field::Width),
+        record.size(Field::Height),
+        record.number(Field::Percentile),
+        record.input(Input::First),
+    );
+    let threshold = answer.map(u32::from);
+    Outcome::of(threshold, record.number(Field::Value1))
 }
 
-fn run_records(rt: &impl Print, data: &[u8], memory: &mut [u8]) -> io::Result<()> {
-    let count = record_count(data);
-    let mut tally = tally::start();
-    let mut k: u32 = 0;
-    while k < count {
-        let same = agrees(data, record_at(data, k), memory);
-        tally = tally::add_record(rt, tally, data, same)?;
-        k += 1;
+fn outcome(record: Record<'_>, out: &mut [u8]) -> Outcome {
+    let w = record.size(Field::Width);
+    let h = record.size(Field::Height);
+    let input = record.input(Input::First);
+    match Call::try_from(record.number(Field::Call)) {
+        Ok(Call::Grey) => Outcome::of(grey::to_grey(w, h, input, out), ()),
+        Ok(Call::Halve) => Outcome::of(halve::halve(w, h, input, out), ()),
+        Ok(Call::Threshold) => threshold_outcome(record),
+        Err(()) => Outcome::Differs,
     }
-    tally::say_all(rt, tally)
 }
 
 // Arrays of this size become slices only here: the prover need not look at their elements.
@@ -80,7 +64,12 @@ fn run(
     memory: &mut [u8; BYTE_MEMORY],
 ) -> io::Result<()> {
     read_vectors(rt, data);
-    run_records(rt, data, memory)
+    run_records(
+        rt,
+        data,
+        |_, _| {},
+        |record| agrees_writing(record, memory, outcome),
+    )
 }
 
 fn main(rt: HostRuntime) -> io::Result<()> {

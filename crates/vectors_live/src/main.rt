@@ -2,19 +2,17 @@
 // after it.
 #![tactic(auto)]
 
-use live::Told;
-use rules::Written;
+use rules::Refusal;
 use std::io;
 use std::rt::Files;
-use vectors::answers::{DIFFERS, number_when, written};
-use vectors::buffers::{OFFSET, input_offsets, lend_bytes, lend_offsets, lend_words};
-use vectors::contents::{bytes_are, memory_kept, offsets_are};
-use vectors_data::data::{
-    CALL, GREY, HALVINGS, HEIGHT, INPUT1, INPUT2, INPUT3, OUTPUT1, OUTPUT2, PERCENTILE, REFUSAL,
-    TOLERANCE, VALUE1, WIDTH, WORDS, field, input, read_vectors, record_at, record_count, second,
-    size,
-};
-use vectors_data::tally;
+use vectors::agreement::agrees_aligning;
+use vectors::buffers::{OFFSET, input, is_output, lend};
+use vectors::element::load;
+use vectors::outcome::Outcome;
+use vectors::work::Work;
+use vectors_data::file::read_vectors;
+use vectors_data::record::{Field, Input, Output, Record};
+use vectors_data::run::run_records;
 
 const DATA_MEMORY: usize = 300000;
 
@@ -28,134 +26,99 @@ const MOST_PIXELS: usize = 600;
 
 const MOST_OFFSETS: usize = 40;
 
-// The calls by their numbers; any other one tells.
-const START: u32 = 28;
-
-const ADD: u32 = 29;
-
-const DROP: u32 = 30;
-
-fn byte_of(bytes: &[u8], i: usize) -> u8 {
-    if i < bytes.len() { bytes[i] } else { 0 }
+#[derive(Clone, Copy)]
+enum Call {
+    Start,
+    Add,
+    Drop,
+    Tell,
 }
 
-// The bytes; past them 0.
-fn load_bytes(bytes: &[u8], out: &mut [u8]) {
-    let mut i: usize = 0;
-    while i < out.len() {
-        out[i] = byte_of(bytes, i);
-        i += 1;
+// Calls have the numbers of tests/FORMAT.md.
+impl From<u32> for Call {
+    fn from(number: u32) -> Self {
+        match number {
+            28 => Call::Start,
+            29 => Call::Add,
+            0..=30 => Call::Drop,
+            31.. => Call::Tell,
+        }
     }
 }
 
-// The held numbers of a record, in a room; where that is too short, nothing, so that the comparison of lengths fails.
-fn held_of<'a>(data: &[u8], at: usize, room: &'a mut [i32]) -> &'a mut [i32] {
-    input_offsets(data, at, INPUT1, room);
-    lend_offsets(room, second(data, at, INPUT1))
+// The memory of a bracket.
+#[derive(Drop)]
+struct Bracket<'a> {
+    held: &'a mut [i32],
+    newest: &'a mut [u8],
 }
 
-// The newest grey, likewise.
-fn newest_of<'a>(data: &[u8], at: usize, room: &'a mut [u8]) -> &'a mut [u8] {
-    let bytes = input(data, at, INPUT2);
-    if room.len() < bytes.len() {
-        return &mut room[0..0];
-    }
-    load_bytes(bytes, room);
-    &mut room[0..bytes.len()]
+// The newest grey of a record, in a room; where that is too short, nothing, so that the comparison of lengths fails.
+fn newest_of<'a>(record: Record<'_>, room: &'a mut [u8]) -> &'a mut [u8] {
+    let bytes = record.input(Input::Second);
+    let newest = lend(room, bytes.len());
+    load(bytes, newest);
+    newest
 }
 
-fn start_of(data: &[u8], at: usize, held: &mut [i32], newest: &mut [u8]) -> Written {
+fn start(record: Record<'_>, bracket: &mut Bracket<'_>) -> Result<(), Refusal> {
     live_start::start(
-        size(data, at, WIDTH),
-        size(data, at, HEIGHT),
-        field(data, at, HALVINGS),
-        field(data, at, TOLERANCE),
-        field(data, at, PERCENTILE),
-        held,
-        newest,
+        record.size(Field::Width),
+        record.size(Field::Height),
+        record.number(Field::Halvings),
+        record.number(Field::Tolerance),
+        record.number(Field::Percentile),
+        bracket.held,
+        bracket.newest,
     )
 }
 
-// A call that writes the memory.
-fn write_of(
-    data: &[u8],
-    at: usize,
-    held: &mut [i32],
-    newest: &mut [u8],
-    grey: &mut [u8],
-    words: &mut [u64],
-) -> Written {
-    let call = field(data, at, CALL);
-    if call == START {
-        return start_of(data, at, held, newest);
-    }
-    if call == ADD {
-        return live_add::add(held, newest, input(data, at, INPUT3), grey, words);
-    }
-    live_drop::drop_oldest(held, newest)
+fn add(record: Record<'_>, bracket: &mut Bracket<'_>, work: &mut Work<'_>) -> Result<(), Refusal> {
+    let raster = record.input(Input::Third);
+    live_add::add(bracket.held, bracket.newest, raster, work.grey, work.words)
 }
 
-fn write_number(
-    data: &[u8],
-    at: usize,
-    held: &mut [i32],
-    newest: &mut [u8],
-    grey: &mut [u8],
-    words: &mut [u64],
-) -> u32 {
-    let answer = write_of(data, at, held, newest, grey, words);
-    if offsets_are(held, data, at, OUTPUT1) && bytes_are(newest, data, at, OUTPUT2) {
-        return written(answer);
-    }
-    DIFFERS
+// Of a call that writes the memory.
+fn write_outcome(
+    record: Record<'_>,
+    bracket: &Bracket<'_>,
+    answer: Result<(), Refusal>,
+) -> Outcome {
+    Outcome::of(answer, ()).when(
+        is_output(bracket.held, record, Output::First)
+            && is_output(bracket.newest, record, Output::Second),
+    )
 }
 
-fn told_number(answer: Told, data: &[u8], at: usize) -> u32 {
-    match answer {
-        Told::Frames(n) => number_when(n == field(data, at, VALUE1)),
-        Told::Refused(n) => n,
-    }
-}
-
-fn tell_number(data: &[u8], at: usize, held: &[i32], newest: &[u8]) -> u32 {
+fn tell_outcome(record: Record<'_>, bracket: &Bracket<'_>) -> Outcome {
     let mut room = [OFFSET; MOST_OFFSETS];
-    let offsets = lend_offsets(&mut room, size(data, at, OUTPUT1));
-    let answer = live_tell::tell(held, newest, offsets);
-    if offsets_are(offsets, data, at, OUTPUT1) {
-        return told_number(answer, data, at);
-    }
-    DIFFERS
+    let offsets = lend(&mut room, record.output_length(Output::First));
+    let answer = live_tell::tell(bracket.held, bracket.newest, offsets);
+    Outcome::of(answer, record.number(Field::Value1)).when(is_output(
+        offsets,
+        record,
+        Output::First,
+    ))
 }
 
-fn live_number(data: &[u8], at: usize, grey: &mut [u8], words: &mut [u64]) -> u32 {
+fn call_outcome(record: Record<'_>, bracket: &mut Bracket<'_>, work: &mut Work<'_>) -> Outcome {
+    let answer = match Call::from(record.number(Field::Call)) {
+        Call::Start => start(record, bracket),
+        Call::Add => add(record, bracket, work),
+        Call::Drop => live_drop::drop_oldest(bracket.held, bracket.newest),
+        Call::Tell => return tell_outcome(record, bracket),
+    };
+    write_outcome(record, bracket, answer)
+}
+
+fn outcome(record: Record<'_>, work: &mut Work<'_>) -> Outcome {
     let mut numbers = [0i32; MOST_NUMBERS];
     let mut bytes = [0u8; MOST_PIXELS];
-    let held = held_of(data, at, &mut numbers);
-    let newest = newest_of(data, at, &mut bytes);
-    if field(data, at, CALL) <= DROP {
-        return write_number(data, at, held, newest, grey, words);
-    }
-    tell_number(data, at, held, newest)
-}
-
-// Whether the library agrees with the record at a place.
-fn agrees(data: &[u8], at: usize, grey: &mut [u8], words: &mut [u64]) -> bool {
-    let lent_grey = lend_bytes(grey, size(data, at, GREY));
-    let lent_words = lend_words(words, size(data, at, WORDS));
-    let n = live_number(data, at, lent_grey, lent_words);
-    n == field(data, at, REFUSAL) && memory_kept(n, data, at, lent_grey, lent_words)
-}
-
-fn run_records(rt: &impl Print, data: &[u8], grey: &mut [u8], words: &mut [u64]) -> io::Result<()> {
-    let count = record_count(data);
-    let mut tally = tally::start();
-    let mut k: u32 = 0;
-    while k < count {
-        let same = agrees(data, record_at(data, k), grey, words);
-        tally = tally::add_record(rt, tally, data, same)?;
-        k += 1;
-    }
-    tally::say_all(rt, tally)
+    let mut bracket = Bracket {
+        held: input(record, Input::First, &mut numbers),
+        newest: newest_of(record, &mut bytes),
+    };
+    call_outcome(record, &mut bracket, work)
 }
 
 // Arrays of this size become slices only here: the prover need not look at their elements.
@@ -166,7 +129,12 @@ fn run(
     words: &mut [u64; WORD_MEMORY],
 ) -> io::Result<()> {
     read_vectors(rt, data);
-    run_records(rt, data, grey, words)
+    run_records(
+        rt,
+        data,
+        |_, _| {},
+        |record| agrees_aligning(record, grey, words, outcome),
+    )
 }
 
 fn main(rt: HostRuntime) -> io::Result<()> {

@@ -1,18 +1,17 @@
 // Test vectors of `pair`, `pair_ward` and `pair_band`: of stored and of made frames.
 #![tactic(auto)]
 
-use rules::Paired;
+use rules::{Offset, Refusal};
 use std::io;
 use std::rt::Files;
-use vectors::answers::{DIFFERS, number_when};
-use vectors::buffers::{COMPARED, COUNT, lend_bytes, lend_counts, lend_words};
-use vectors::contents::{counts_are, memory_kept};
-use vectors_data::data::{
-    CALL, GREY, HALVINGS, HEIGHT, INPUT1, INPUT2, OUTPUT1, OUTPUT2, PERCENTILE, REFUSAL, TOLERANCE,
-    VALUE1, VALUE2, WIDTH, WORDS, field, input, read_vectors, record_at, record_count, signed,
-    size,
-};
-use vectors_data::tally;
+use vectors::agreement::agrees_aligning;
+use vectors::alignment::Alignment;
+use vectors::buffers::{COMPARED, COUNT, is_output, lend};
+use vectors::outcome::Outcome;
+use vectors::work::Work;
+use vectors_data::file::read_vectors;
+use vectors_data::record::{Field, Input, Output, Record};
+use vectors_data::run::run_records;
 use vectors_scene::make_frames;
 
 // The file, and after it the made bytes of the largest frames.
@@ -24,165 +23,75 @@ const WORD_MEMORY: usize = 105000;
 
 const MOST_COUNTS: usize = 128;
 
-// The first number of a call in Ward's order.
-const WARD: u32 = 18;
-
-// The first number of a call with a band.
-const BAND: u32 = 24;
-
-// Sizes and settings of a record; the tolerance is the band of a call that has one.
-#[derive(Clone, Copy)]
-struct Setup {
-    w: usize,
-    h: usize,
-    s: u32,
-    tolerance: u32,
-    percentile: u32,
+// What a pair call writes, beside its work memory.
+#[derive(Drop)]
+struct Outputs<'a> {
+    counts: &'a mut [u32],
+    compared: &'a mut [u32],
 }
 
-fn setup_of(data: &[u8], at: usize) -> Setup {
-    Setup {
-        w: size(data, at, WIDTH),
-        h: size(data, at, HEIGHT),
-        s: field(data, at, HALVINGS),
-        tolerance: field(data, at, TOLERANCE),
-        percentile: field(data, at, PERCENTILE),
-    }
-}
-
-fn moved_as(data: &[u8], at: usize, dx: i32, dy: i32) -> bool {
-    dx == signed(field(data, at, VALUE1)) && dy == signed(field(data, at, VALUE2))
-}
-
-fn number_of(answer: Paired, data: &[u8], at: usize) -> u32 {
-    match answer {
-        Paired::Moved(offset) => number_when(moved_as(data, at, offset.dx, offset.dy)),
-        Paired::Refused(n) => n,
-    }
-}
-
-// The call by a band.
-fn by_band(
-    data: &[u8],
-    at: usize,
-    counts: &mut [u32],
-    compared: &mut [u32],
-    grey: &mut [u8],
-    words: &mut [u64],
-) -> Paired {
-    let set = setup_of(data, at);
-    let first = input(data, at, INPUT1);
-    let second = input(data, at, INPUT2);
-    pair_band::pair_band(
-        set.w,
-        set.h,
-        set.s,
-        set.tolerance,
-        set.percentile,
-        first,
-        second,
-        counts,
-        compared,
-        grey,
-        words,
+// Makes a call, one of three of the same form. The tolerance is the band of the one that has a band.
+fn answer_of<F>(
+    pair: F,
+    record: Record<'_>,
+    outputs: &mut Outputs<'_>,
+    work: &mut Work<'_>,
+) -> Result<Offset, Refusal>
+where
+    F: FnOnce(
+        usize,
+        usize,
+        u32,
+        u32,
+        u32,
+        &[u8],
+        &[u8],
+        &mut [u32],
+        &mut [u32],
+        &mut [u8],
+        &mut [u64],
+    ) -> Result<Offset, Refusal>,
+    requires { F.IsAlwaysCallable pair }
+{
+    pair(
+        record.size(Field::Width),
+        record.size(Field::Height),
+        record.number(Field::Halvings),
+        record.number(Field::Tolerance),
+        record.number(Field::Percentile),
+        record.input(Input::First),
+        record.input(Input::Second),
+        outputs.counts,
+        outputs.compared,
+        work.grey,
+        work.words,
     )
 }
 
-fn pair_of(
-    data: &[u8],
-    at: usize,
-    counts: &mut [u32],
-    compared: &mut [u32],
-    grey: &mut [u8],
-    words: &mut [u64],
-) -> Paired {
-    if BAND <= field(data, at, CALL) {
-        return by_band(data, at, counts, compared, grey, words);
-    }
-    let set = setup_of(data, at);
-    let first = input(data, at, INPUT1);
-    let second = input(data, at, INPUT2);
-    if WARD <= field(data, at, CALL) {
-        return pair::pair_ward(
-            set.w,
-            set.h,
-            set.s,
-            set.tolerance,
-            set.percentile,
-            first,
-            second,
-            counts,
-            compared,
-            grey,
-            words,
-        );
-    }
-    pair::pair(
-        set.w,
-        set.h,
-        set.s,
-        set.tolerance,
-        set.percentile,
-        first,
-        second,
-        counts,
-        compared,
-        grey,
-        words,
+fn pair_outcome(record: Record<'_>, outputs: &mut Outputs<'_>, work: &mut Work<'_>) -> Outcome {
+    let answer = match Alignment::from(record.number(Field::Call)) {
+        Alignment::LeastMove => answer_of(pair::pair, record, outputs, work),
+        Alignment::Ward => answer_of(pair::pair_ward, record, outputs, work),
+        Alignment::Band => answer_of(pair_band::pair_band, record, outputs, work),
+    };
+    let offset = answer.map(|offset| (offset.dx, offset.dy));
+    Outcome::of(
+        offset,
+        (record.signed(Field::Value1), record.signed(Field::Value2)),
     )
 }
 
-fn number_with(
-    data: &[u8],
-    at: usize,
-    counts: &mut [u32],
-    grey: &mut [u8],
-    words: &mut [u64],
-) -> u32 {
-    let mut room = [COMPARED; MOST_COUNTS];
-    let compared = lend_counts(&mut room, size(data, at, OUTPUT2));
-    let answer = pair_of(data, at, counts, compared, grey, words);
-    if counts_are(compared, data, at, OUTPUT2) {
-        return number_of(answer, data, at);
-    }
-    DIFFERS
-}
-
-fn pair_number(data: &[u8], at: usize, grey: &mut [u8], words: &mut [u64]) -> u32 {
-    let mut room = [COUNT; MOST_COUNTS];
-    let counts = lend_counts(&mut room, size(data, at, OUTPUT1));
-    let n = number_with(data, at, counts, grey, words);
-    if counts_are(counts, data, at, OUTPUT1) {
-        return n;
-    }
-    DIFFERS
-}
-
-// Whether the library agrees with the record at a place.
-fn agrees(data: &[u8], at: usize, grey: &mut [u8], words: &mut [u64]) -> bool {
-    let lent_grey = lend_bytes(grey, size(data, at, GREY));
-    let lent_words = lend_words(words, size(data, at, WORDS));
-    let n = pair_number(data, at, lent_grey, lent_words);
-    n == field(data, at, REFUSAL) && memory_kept(n, data, at, lent_grey, lent_words)
-}
-
-fn run_records(
-    rt: &impl Print,
-    data: &mut [u8],
-    grey: &mut [u8],
-    words: &mut [u64],
-) -> io::Result<()> {
-    let count = record_count(data);
-    let mut tally = tally::start();
-    let mut k: u32 = 0;
-    while k < count {
-        let at = record_at(data, k);
-        make_frames(data, at);
-        let same = agrees(data, at, grey, words);
-        tally = tally::add_record(rt, tally, data, same)?;
-        k += 1;
-    }
-    tally::say_all(rt, tally)
+fn outcome(record: Record<'_>, work: &mut Work<'_>) -> Outcome {
+    let mut room1 = [COUNT; MOST_COUNTS];
+    let mut room2 = [COMPARED; MOST_COUNTS];
+    let mut outputs = Outputs {
+        counts: lend(&mut room1, record.output_length(Output::First)),
+        compared: lend(&mut room2, record.output_length(Output::Second)),
+    };
+    pair_outcome(record, &mut outputs, work).when(
+        is_output(outputs.counts, record, Output::First)
+            && is_output(outputs.compared, record, Output::Second),
+    )
 }
 
 // Arrays of this size become slices only here: the prover need not look at their elements.
@@ -193,7 +102,12 @@ fn run(
     words: &mut [u64; WORD_MEMORY],
 ) -> io::Result<()> {
     read_vectors(rt, data);
-    run_records(rt, data, grey, words)
+    run_records(
+        rt,
+        data,
+        make_frames,
+        |record| agrees_aligning(record, grey, words, outcome),
+    )
 }
 
 fn main(rt: HostRuntime) -> io::Result<()> {

@@ -1,17 +1,16 @@
 // Test vectors of `quadrants`: of stored and of made frames.
 #![tactic(auto)]
 
-use rotation::Rotation;
+use rules::Refusal;
 use std::io;
 use std::rt::Files;
-use vectors::answers::{DIFFERS, number_when};
-use vectors::buffers::{OFFSET, lend_bytes, lend_offsets, lend_words};
-use vectors::contents::{memory_kept, offsets_are};
-use vectors_data::data::{
-    GREY, HALVINGS, HEIGHT, INPUT1, INPUT2, OUTPUT1, PERCENTILE, REFUSAL, TOLERANCE, VALUE1, WIDTH,
-    WORDS, field, input, read_vectors, record_at, record_count, size,
-};
-use vectors_data::tally;
+use vectors::agreement::agrees_aligning;
+use vectors::buffers::{OFFSET, is_output, lend};
+use vectors::outcome::Outcome;
+use vectors::work::Work;
+use vectors_data::file::read_vectors;
+use vectors_data::record::{Field, Input, Output, Record};
+use vectors_data::run::run_records;
 use vectors_scene::make_frames;
 
 // The file, and after it the made bytes of the largest frames.
@@ -26,93 +25,35 @@ const MOST_OFFSETS: usize = 16;
 // What value 1 of a record has where the frames are turned.
 const TURNED: u32 = 1;
 
-// Sizes and settings of a record.
-#[derive(Clone, Copy)]
-struct Setup {
-    w: usize,
-    h: usize,
-    s: u32,
-    tolerance: u32,
-    percentile: u32,
-}
-
-fn setup_of(data: &[u8], at: usize) -> Setup {
-    Setup {
-        w: size(data, at, WIDTH),
-        h: size(data, at, HEIGHT),
-        s: field(data, at, HALVINGS),
-        tolerance: field(data, at, TOLERANCE),
-        percentile: field(data, at, PERCENTILE),
-    }
-}
-
-fn number_of(answer: Rotation, data: &[u8], at: usize) -> u32 {
-    match answer {
-        Rotation::Turned => number_when(field(data, at, VALUE1) == TURNED),
-        Rotation::NotTurned => number_when(field(data, at, VALUE1) != TURNED),
-        Rotation::Refused(n) => n,
-    }
-}
-
-fn quadrants_of(
-    data: &[u8],
-    at: usize,
+// Whether the frames are turned.
+fn answer_of(
+    record: Record<'_>,
     offsets: &mut [i32],
-    grey: &mut [u8],
-    words: &mut [u64],
-) -> Rotation {
-    let set = setup_of(data, at);
-    let first = input(data, at, INPUT1);
-    let second = input(data, at, INPUT2);
+    work: &mut Work<'_>,
+) -> Result<bool, Refusal> {
     quadrants::quadrants(
-        set.w,
-        set.h,
-        set.s,
-        set.tolerance,
-        set.percentile,
-        first,
-        second,
+        record.size(Field::Width),
+        record.size(Field::Height),
+        record.number(Field::Halvings),
+        record.number(Field::Tolerance),
+        record.number(Field::Percentile),
+        record.input(Input::First),
+        record.input(Input::Second),
         offsets,
-        grey,
-        words,
+        work.grey,
+        work.words,
     )
 }
 
-fn quadrants_number(data: &[u8], at: usize, grey: &mut [u8], words: &mut [u64]) -> u32 {
+fn outcome(record: Record<'_>, work: &mut Work<'_>) -> Outcome {
     let mut room = [OFFSET; MOST_OFFSETS];
-    let offsets = lend_offsets(&mut room, size(data, at, OUTPUT1));
-    let answer = quadrants_of(data, at, offsets, grey, words);
-    if offsets_are(offsets, data, at, OUTPUT1) {
-        return number_of(answer, data, at);
-    }
-    DIFFERS
-}
-
-// Whether the library agrees with the record at a place.
-fn agrees(data: &[u8], at: usize, grey: &mut [u8], words: &mut [u64]) -> bool {
-    let lent_grey = lend_bytes(grey, size(data, at, GREY));
-    let lent_words = lend_words(words, size(data, at, WORDS));
-    let n = quadrants_number(data, at, lent_grey, lent_words);
-    n == field(data, at, REFUSAL) && memory_kept(n, data, at, lent_grey, lent_words)
-}
-
-fn run_records(
-    rt: &impl Print,
-    data: &mut [u8],
-    grey: &mut [u8],
-    words: &mut [u64],
-) -> io::Result<()> {
-    let count = record_count(data);
-    let mut tally = tally::start();
-    let mut k: u32 = 0;
-    while k < count {
-        let at = record_at(data, k);
-        make_frames(data, at);
-        let same = agrees(data, at, grey, words);
-        tally = tally::add_record(rt, tally, data, same)?;
-        k += 1;
-    }
-    tally::say_all(rt, tally)
+    let offsets = lend(&mut room, record.output_length(Output::First));
+    let answer = answer_of(record, offsets, work);
+    Outcome::of(answer, record.number(Field::Value1) == TURNED).when(is_output(
+        offsets,
+        record,
+        Output::First,
+    ))
 }
 
 // Arrays of this size become slices only here: the prover need not look at their elements.
@@ -123,7 +64,12 @@ fn run(
     words: &mut [u64; WORD_MEMORY],
 ) -> io::Result<()> {
     read_vectors(rt, data);
-    run_records(rt, data, grey, words)
+    run_records(
+        rt,
+        data,
+        make_frames,
+        |record| agrees_aligning(record, grey, words, outcome),
+    )
 }
 
 fn main(rt: HostRuntime) -> io::Result<()> {

@@ -6,36 +6,38 @@ use Rattle.tallies.specs.declared.Counters.{Counters}
 use Rattle.popcount.specs.RowCounts.{Adds}
 use Rattle.tallies.specs.Tallies.{both}
 use Rattle.tallies.specs.Held.{held}
+use Rattle.differing.specs.declared.FramePair.{FramePair}
 use Rattle.differing.specs.RowDifferences.{disagree, both_kept}
 
 -- bit p of the words from place `from` on
 unfoldable pub run_bit : List ℕ → ℕ → ℕ → ℕ
 run_bit words from p = bit (get_or words (from + p / word_bits) 0) (p % word_bits)
 
--- bit p of the first frame's words from place i on against that of the second's from place x on
-unfoldable pub run_differ : List ℕ → List ℕ → List ℕ → List ℕ → ℕ → ℕ → ℕ → ℕ
-run_differ t1 e1 t2 e2 i x p = disagree (run_bit t1 i p) (run_bit e1 i p) (run_bit t2 x p) (run_bit e2 x p)
+-- bit q of the first frame's words from place i on against that of the second's from place x on
+unfoldable pub run_differ : FramePair → ℕ → ℕ → ℕ → ℕ
+run_differ p i x q =
+    disagree (run_bit p.threshold1.now i q) (run_bit p.exclusion1.now i q) (run_bit p.threshold2.now x q) (run_bit p.exclusion2.now x q)
 
 -- whether the two are compared
-unfoldable pub run_kept : List ℕ → List ℕ → ℕ → ℕ → ℕ → ℕ
-run_kept e1 e2 i x p = both_kept (run_bit e1 i p) (run_bit e2 x p)
+unfoldable pub run_kept : FramePair → ℕ → ℕ → ℕ → ℕ
+run_kept p i x q = both_kept (run_bit p.exclusion1.now i q) (run_bit p.exclusion2.now x q)
 
 -- both in one number
-abbrev pub run_tally : List ℕ → List ℕ → List ℕ → List ℕ → ℕ → ℕ → ℕ → ℕ
-run_tally t1 e1 t2 e2 i x = both (run_differ t1 e1 t2 e2 i x) (run_kept e1 e2 i x)
+abbrev pub run_tally : FramePair → ℕ → ℕ → ℕ → ℕ
+run_tally p i x = both (run_differ p i x) (run_kept p i x)
 
 -- the two runs lie in the four bitmaps, and are no longer than a frame
-pub record RunsIn (t1 e1 t2 e2 : List ℕ) (i x len : ℕ) : Type 0 where
-  pub threshold1 : i + len ≤ length t1
-  pub exclusion1 : i + len ≤ length e1
-  pub threshold2 : x + len ≤ length t2
-  pub exclusion2 : x + len ≤ length e2
+pub record RunsIn (p : FramePair) (i x len : ℕ) : Type 0 where
+  pub threshold1 : i + len ≤ length p.threshold1.now
+  pub exclusion1 : i + len ≤ length p.exclusion1.now
+  pub threshold2 : x + len ≤ length p.threshold2.now
+  pub exclusion2 : x + len ≤ length p.exclusion2.now
   pub short : len ≤ word_bits * max_side
 
 -- the counters have counted the first k words of the runs
-pub record CountedTo (t1 e1 t2 e2 : List ℕ) (i x k : ℕ) (c : Counters) : Type 0 where
-  pub differing : Adds (run_differ t1 e1 t2 e2 i x) 0 k (held c.differing)
-  pub kept : Adds (run_kept e1 e2 i x) 0 k (held c.kept)
+pub record CountedTo (p : FramePair) (i x k : ℕ) (c : Counters) : Type 0 where
+  pub differing : Adds (run_differ p i x) 0 k (held c.differing)
+  pub kept : Adds (run_kept p i x) 0 k (held c.kept)
 
 -- no row of w pixels has a 1 bit past w
 pub record Clean (w h : ℕ) (words : List ℕ) : Type 0 where

@@ -9,9 +9,8 @@ use lib.ListN.{get_or}
 use lib.Bits.{bit_or}
 use Rattle.rules.specs.Bitmaps.{bit, row_words}
 use Rattle.rules.proofs.SumLaws.{order}
-use Rattle.words.specs.declared.moves.Move.{Move}
 use Rattle.words.specs.Rows.{WordOf, row_bit, back, bias, bias_words}
-use Rattle.words.specs.Moves.{moved_bit, Joined, Moves}
+use Rattle.words.specs.Moves.{moved_bit, Joined, MoveOf}
 use Rattle.words.proofs.BitLaws.{bit-or, bit-shr, bit-above, bit-shl64-high, bit-shl64-low}
 use Rattle.words.proofs.MoveLaws.{row-bit, row-whole, back_at, moved-first}
 
@@ -126,22 +125,22 @@ pub full-le : (w : ℕ) → w / 64 ≤ row_words w
 unfolding row_words
 full-le w = omega arith
 
-pub moves : (m : Move) (d : ℕ) → m.w ≤ 4096 → m.n ≡ row_words m.w → m.r ≡ d % 64
-    → m.end ≡ min (m.w / 64) (max (m.q + m.w / 64) bias_words - bias_words) → m.first ≡ min m.end (max (m.q + 1) bias_words - bias_words)
-    → m.rest ≡ m.end - (m.end - m.first) % 7
-    → Moves m
-moves m d b e r f g h =
-    let s = first-in m.q m.first m.end g in
-    let t = end-in (m.w / 64) m.q m.end f in
+pub moves : (w n q r first rest end d : ℕ) → w ≤ 4096 → n ≡ row_words w → r ≡ d % 64
+    → end ≡ min (w / 64) (max (q + w / 64) bias_words - bias_words) → first ≡ min end (max (q + 1) bias_words - bias_words)
+    → rest ≡ end - (end - first) % 7
+    → MoveOf w n q r first rest end
+moves w n q r first rest end d b e l f g h =
+    let s = first-in q first end g in
+    let t = end-in (w / 64) q end f in
     let u = t.0 in
-    let v = full-le m.w in
-    let o = rest_in m.first m.rest m.end s.0 h in
+    let v = full-le w in
+    let o = rest_in first rest end s.0 h in
     record {
       width = b;
       row = e;
-      bits = rw r (mod-lt d (omega arith));
+      bits = rw l (mod-lt d (omega arith));
       sevens = o.0;
       rests = o.1;
       ends = le_trans u (rw (← e) at v);
-      inside = λ k l n. record { here = lt_of_lt_of_le n u; low = s.1 k l n; high = t.1 k n };
+      inside = λ k a c. record { here = lt_of_lt_of_le c u; low = s.1 k a c; high = t.1 k c };
     }

@@ -2,5 +2,6 @@
 pub mod BitLaws
 pub mod MoveLaws
 pub mod JoinLaws
+pub mod PartLaws
 pub mod MovedRowLaws
 pub mod MovedRowExampleLaws

@@ -2,7 +2,6 @@
 use Rattle.std.specs.Prelude.{◌≡◌, List, ℕ, ◌+◌, ◌-◌, ◌/◌, ◌%◌, ◌≤◌, ◌<◌}
 use Rattle.rules.specs.Limits.{max_side, word_bits}
 use Rattle.rules.specs.Bitmaps.{bit, row_words}
-use Rattle.words.specs.declared.moves.Move.{Move}
 use Rattle.words.specs.Rows.{row_bit, back, bias, bias_words}
 
 -- pixel x of the row of w pixels whose words begin at `from`, moved by d places, d counted from the bias
@@ -20,12 +19,12 @@ pub record Interior (full q k : ℕ) : Type 0 where
   pub low : q + 1 ≤ k + bias_words
   pub high : k + bias_words < q + full
 
--- a move as `move_by` works it out: its words from `first` up to `end` are interior, those up to `rest` in blocks of seven
-pub record Moves (m : Move) : Type 0 where
-  pub width : m.w ≤ max_side
-  pub row : m.n ≡ row_words m.w
-  pub bits : m.r < word_bits
-  pub sevens : (m.first ≤ m.rest) × ((m.rest - m.first) % 7 ≡ 0)
-  pub rests : m.rest ≤ m.end
-  pub ends : m.end ≤ m.n
-  pub inside : (k : ℕ) → m.first ≤ k → k < m.end → Interior (m.w / word_bits) m.q k
+-- a move of rows of w pixels as it is worked out: its words from `first` up to `end` are interior, those up to `rest` in blocks of seven
+pub record MoveOf (w n q r first rest end : ℕ) : Type 0 where
+  pub width : w ≤ max_side
+  pub row : n ≡ row_words w
+  pub bits : r < word_bits
+  pub sevens : (first ≤ rest) × ((rest - first) % 7 ≡ 0)
+  pub rests : rest ≤ end
+  pub ends : end ≤ n
+  pub inside : (k : ℕ) → first ≤ k → k < end → Interior (w / word_bits) q k

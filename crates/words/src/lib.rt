@@ -20,6 +20,7 @@ pub const BIAS: usize = 2147483648;
 pub const BIAS_WORDS: usize = 33554432;
 
 // The words of a row of w pixels. (Written so that no width overflows.)
+#[tactic(auto, unfolding(rules::specs::Bitmaps::row_words))]
 pub fn row_words(w: usize) -> usize
     ensures { result ≡ row_words w }
 {

@@ -1,11 +1,14 @@
 // The sizes and halvings that an alignment takes, and the work memory that it needs for them.
 #![tactic(auto)]
 
-ghost use Rattle.std.specs.Prelude.{◌≡◌, ◌<◌, ◌≤◌};
+ghost use Rattle.std.specs.Prelude.{◌≡◌, ◌<◌, ◌≤◌, OnOk};
+ghost use Rattle.rules.specs.Accepted.{SizeOk};
 ghost use Rattle.rules.specs.Limits.{max_side, max_halvings};
+ghost use Rattle.rules.specs.RefusalNumbers.{number_in};
 ghost use Rattle.rules.specs.Refusals.{too_small, shape_refusal, level_pixels, grey_needed, words_needed, short_memory};
 
-use refusals::{Faults, MAX_HALVINGS, NONE, bad_size, lowest};
+use refusals::{Faults, MAX_HALVINGS, NONE, lowest, size_refusal};
+use rules::Refusal;
 use words::row_words;
 
 // The pixels of all levels of a frame.
@@ -25,18 +28,19 @@ pub fn too_small(w: usize, h: usize, s: u32) -> bool
     ensures { result ≡ too_small w h s }
 {
     let least = 4usize << s;
-    (w < least) | (h < least)
+    w < least || h < least
 }
 
 // 2, 3, 4: what is wrong with sizes and halvings.
-pub fn shape_refusal(w: usize, h: usize, s: u32) -> u32
-    ensures { result ≡ shape_refusal w h s }
+#[tactic(auto, unfolding(rules::specs::Refusals::bad_halvings))]
+pub fn shape_refusal(w: usize, h: usize, s: u32) -> Result<(), Refusal>
+    ensures number { number_in result ≡ shape_refusal w h s }
+    ensures size { OnOk result (SizeOk w h) }
+    ensures halvings { OnOk result (s ≤ max_halvings) }
 {
-    if bad_size(w, h) {
-        return 2;
-    }
+    size_refusal(w, h)?;
     if MAX_HALVINGS < s {
-        return 3;
+        return Err(Refusal::Halvings);
     }
     lowest(Faults {
         small: too_small(w, h, s),
@@ -66,5 +70,5 @@ pub fn short_memory(w: usize, h: usize, s: u32, grey: usize, words: usize) -> bo
 {
     let greys = grey_memory(w, h, s);
     let bitmaps = word_memory(w, h);
-    (grey < greys) | (words < bitmaps)
+    grey < greys || words < bitmaps
 }

@@ -6,7 +6,7 @@ use lib.ListN.{length}
 use borrow.Rule.Slice.PartMut.{same_len_mid}
 use Rattle.rules.specs.Levels.{arranged}
 use Rattle.align.proofs.AlignLaws.{coarser, returned, aligned-one, aligned-more, coarse-near, centre-near, part_length}
-use Rattle.align.proofs.AlignLaws.{frames-quarter, frames-room, frames-rest, frames-next, words-room}
+use Rattle.align.proofs.AlignLaws.{frames-room, frames-rest, frames-next, words-room}
 use Rattle.align.proofs.+align_frames.Goals as goal
 
 pub align_level-requires-clause-frames : goal.align_level-requires-clause-frames
@@ -20,7 +20,7 @@ pub returns-then-s-eq0 : goal.returns-then-s-eq0
 returns-then-s-eq0 t c =
     let a = c.args in
     let z = c.align_level in
-    aligned-one (arranged a.order.now) a.setup a.first a.second a.at a.grey.now a.counts.now z.new.counts a.compared.now z.new.compared z.result
+    aligned-one (arranged a.order.now.places) a.setup a.first a.second a.at a.grey.now a.counts.now z.new.counts a.compared.now z.new.compared z.result
     c.if-s-eq0.true z.ensures
 
 pub halve_within-requires-clause-h_in_bounds : goal.halve_within-requires-clause-h_in_bounds
@@ -67,7 +67,7 @@ align_frames-coarse-requires t c =
         rw size (frames-next a.first a.second a.setup (length a.grey.now) c.requires.frames some),
         (
           words-room a.first a.second a.setup (length a.grey.now) c.requires.frames (length a.words.now) c.requires.room,
-          ((let l = room.0 in omega arith, let l = room.1 in omega arith), (c.requires.order, c.requires.table)),
+          (let l = room.0 in omega arith, let l = room.1 in omega arith),
         ),
       ),
     )
@@ -77,7 +77,7 @@ doubled-centre-requires t c =
     let a = c.args in
     let f = c.requires.frames in
     let u = c.align_frames-coarse in
-    coarse-near a.order.now (coarser a.setup) _ _ u.result (let l = f.halvings in omega arith) u.ensures.offset
+    coarse-near a.order.now.places (coarser a.setup) _ _ u.result (let l = f.halvings in omega arith) u.ensures.offset
 
 pub align_level-aligned-requires-clause-frames : goal.align_level-aligned-requires-clause-frames
 align_level-aligned-requires-clause-frames t c =
@@ -97,7 +97,7 @@ align_level-aligned-requires-clause-near t c =
     let a = c.args in
     let f = c.requires.frames in
     let u = c.align_frames-coarse in
-    let near = coarse-near a.order.now (coarser a.setup) _ _ u.result (let l = f.halvings in omega arith) u.ensures.offset in
+    let near = coarse-near a.order.now.places (coarser a.setup) _ _ u.result (let l = f.halvings in omega arith) u.ensures.offset in
     centre-near u.result c.doubled-centre.result near c.doubled-centre.ensures
 
 pub returns : goal.returns
@@ -113,7 +113,7 @@ returns t c =
     let e = h1.ensures.len in
     let d = h2.ensures.len in
     let some : 0 < a.setup.s = (let l = c.if-s-eq0.false in omega arith) in
-    aligned-more (arranged a.order.now) a.setup a.first a.second a.grey.now h1.new.grey h2.new.grey some f.one f.two h1.ensures h2.ensures
+    aligned-more (arranged a.order.now.places) a.setup a.first a.second a.grey.now h1.new.grey h2.new.grey some f.one f.two h1.ensures h2.ensures
     a.at u.new.grey a.counts.now u.new.counts z.new.counts
     a.compared.now u.new.compared z.new.compared (a.at + 9 * a.setup.s) u.result two.result z.result
     (omega arith) u.ensures two.ensures refl z.ensures

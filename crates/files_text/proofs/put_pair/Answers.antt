@@ -11,7 +11,7 @@ put_aligned-requires-clause-s_bound c =
     -- the lengths of the lent arrays
     let grey : length a.grey.now ≡ 65536 = c.told-grey in
     let words : length a.words.now ≡ 8192 = c.told-words in
-    let answered = rw (grey, words) at c.in-Moved.ensures.answered in
+    let answered = rw (grey, words) at c.in-Ok.ensures.answered in
     halvings a.size a.s a.tolerance a.percentile a.first.now a.second.now _ (sym answered)
 
 pub put_aligned-requires-clause-s_in_bounds : goal.put_aligned-requires-clause-s_in_bounds
@@ -19,27 +19,27 @@ put_aligned-requires-clause-s_in_bounds c =
     let a = c.args in
     let grey : length a.grey.now ≡ 65536 = c.told-grey in
     let words : length a.words.now ≡ 8192 = c.told-words in
-    let answered = rw (grey, words) at c.in-Moved.ensures.answered in
+    let answered = rw (grey, words) at c.in-Ok.ensures.answered in
     let few = halvings a.size a.s a.tolerance a.percentile a.first.now a.second.now _ (sym answered) in
     omega arith
 
-pub returns-in-Refused : goal.returns-in-Refused
-returns-in-Refused c =
+pub returns-in-Err : goal.returns-in-Err
+returns-in-Err c =
     let a = c.args in
     let grey : length a.grey.now ≡ 65536 = c.told-grey in
     let words : length a.words.now ≡ 8192 = c.told-words in
-    let answered = rw (grey, words) at c.in-Refused.ensures.answered in
+    let answered = rw (grey, words) at c.in-Err.ensures.answered in
     record {
-      wrote = rw (pair-refused-text a.size a.s a.tolerance a.percentile a.first.now a.second.now _ (sym answered)) c.put_refused.ensures;
+      wrote = rw (pair-refused-text a.size a.s a.tolerance a.percentile a.first.now a.second.now _ (sym answered), ← c.from.ensures) c.put_refused.ensures;
       memory_kept = λ e. rw (grey, words) at c.pair_ward-answer.ensures.memory_kept (not-zero _ e);
     }
 
-pub returns-in-Moved : goal.returns-in-Moved
-returns-in-Moved c =
+pub returns-in-Ok : goal.returns-in-Ok
+returns-in-Ok c =
     let a = c.args in
     let grey : length a.grey.now ≡ 65536 = c.told-grey in
     let words : length a.words.now ≡ 8192 = c.told-words in
-    let answered = rw (grey, words) at c.in-Moved.ensures.answered in
+    let answered = rw (grey, words) at c.in-Ok.ensures.answered in
     let counts = rw (grey, words) at c.pair_ward-answer.ensures.counts_are in
     record {
       wrote = rw (pair-moved-text a.size a.s a.tolerance a.percentile a.first.now a.second.now _ (sym answered) _ _ counts) c.put_aligned.ensures;

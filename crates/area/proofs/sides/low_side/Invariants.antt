@@ -1,0 +1,8 @@
+-- low is the side of the first k frames.
+use Rattle.std.proofs.Common.{◌≡◌}
+use Rattle.area.specs.Common.{low_side}
+use Rattle.area.specs.Sides.{axis_of}
+use Rattle.area.proofs.sides.low_side.Given as goal
+
+abbrev pub invariant-loop-k : goal.invariant-loop-k
+invariant-loop-k l = l.low ≡ low_side l.k (axis_of l.offsets l.axis)

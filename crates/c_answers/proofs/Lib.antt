@@ -1,0 +1,2 @@
+-- Laws of answers as C gets them.
+pub mod AnswerLaws

@@ -1,2 +1,0 @@
--- Laws of rows moved sideways, for the slide and for the shift.
-pub mod SlideWordLaws

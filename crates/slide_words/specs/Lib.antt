@@ -1,2 +1,0 @@
--- The words of a moved row.
-pub mod Slides
