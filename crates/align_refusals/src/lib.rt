@@ -2,14 +2,12 @@
 // the percentiles the values too.
 #![tactic(auto)]
 
-ghost use Rattle.std.specs.Prelude.{◌≡◌, ◌<◌, OnOk};
-ghost use Rattle.rules.specs.Accepted.{FramesOk};
-ghost use Rattle.rules.specs.Calls.{exclusion_refusal};
-ghost use Rattle.rules.specs.RefusalNumbers.{number_in};
-ghost use Rattle.rules.specs.Refusals.{◌when◌, ◌or_else◌, bad_frames, bad_reference, bad_percentiles, pair_refusal, series_refusal};
+ghost use Rattle.std.specs.Prelude.{◌≡◌, ◌<◌};
+ghost use Rattle.rules.specs.RefusalNumbers.{numbered};
+ghost use Rattle.rules.specs.Refusals.{bad_percentiles, pair_refusal, series_refusal};
 
-use refusals::{Faults, NONE, bad_frames, bad_percentile, exclusion_refusal, lowest};
-use rules::{Exclusion, Refusal};
+use refusals::{Faults, bad_frames, bad_percentile, lowest};
+use rules::Numbered;
 use work_memory::{shape_refusal, short_memory};
 
 // There are not n - 1 percentiles, or one is none of the three.
@@ -20,26 +18,12 @@ fn bad_percentiles(n: usize, percentiles: &[u32]) -> bool
     percentiles.len() != n - 1 || percentiles.iter().any(|p| bad_percentile(*p))
 }
 
-// What refuses the number of frames or the reference, after the exclusion setting.
-#[tactic(auto, unfolding(rules::specs::Refusals::bad_frames, rules::specs::Refusals::bad_reference))]
-fn frames_refusal(exclusion: Exclusion, n: usize, r: usize) -> Result<(), Refusal>
-    ensures number { number_in result ≡ exclusion_refusal exclusion or_else 6 when bad_frames n or_else 7 when bad_reference n r }
-    ensures known { OnOk result (FramesOk n r) }
-{
-    lowest(Faults {
-        excluded: exclusion_refusal(exclusion),
-        frames: bad_frames(n),
-        reference: n <= r,
-        ..NONE
-    })
-}
-
 #[tactic(auto, unfolding(rules::specs::Refusals::pair_refusal, rules::specs::Refusals::bad_halvings))]
-pub fn pair_refusal(
+pub fn pair_refusal<E: Numbered>(
     w: usize,
     h: usize,
     s: u32,
-    exclusion: Exclusion,
+    excluded: Result<(), E>,
     percentile: u32,
     first: usize,
     second: usize,
@@ -47,28 +31,32 @@ pub fn pair_refusal(
     compared: usize,
     grey: usize,
     words: usize,
-) -> Result<(), Refusal>
-    ensures { number_in result ≡ pair_refusal w h s (exclusion_refusal exclusion) percentile first second counts compared grey words }
+) -> Result<(), E>
+    ensures { numbered E.number result ≡ pair_refusal w h s (numbered E.number excluded) percentile first second counts compared grey words }
 {
     shape_refusal(w, h, s)?;
     let raster = 3 * (w * h);
     let pair = 9 * (s as usize + 1);
     lowest(Faults {
-        excluded: exclusion_refusal(exclusion),
+        small: false,
+        excluded,
+        frames: false,
+        reference: false,
         percentile: bad_percentile(percentile),
         length: (first != raster) | (second != raster),
         room: (counts < pair) | (compared < pair),
         memory: short_memory(w, h, s, grey, words),
-        ..NONE
+        offset: false,
+        row: false,
     })
 }
 
-#[tactic(auto, unfolding(rules::specs::Refusals::series_refusal, rules::specs::Refusals::bad_halvings))]
-pub fn series_refusal(
+#[tactic(auto, unfolding(rules::specs::Refusals::series_refusal, rules::specs::Refusals::bad_halvings, rules::specs::Refusals::bad_frames, rules::specs::Refusals::bad_reference))]
+pub fn series_refusal<E: Numbered>(
     w: usize,
     h: usize,
     s: u32,
-    exclusion: Exclusion,
+    excluded: Result<(), E>,
     n: usize,
     r: usize,
     percentiles: &[u32],
@@ -78,11 +66,26 @@ pub fn series_refusal(
     compared: usize,
     grey: usize,
     words: usize,
-) -> Result<(), Refusal>
-    ensures { number_in result ≡ series_refusal w h s (exclusion_refusal exclusion) n r percentiles.now rasters offsets counts compared grey words }
+) -> Result<(), E>
+    ensures { numbered E.number result ≡ series_refusal w h s (numbered E.number excluded) n r percentiles.now rasters offsets counts compared grey words }
 {
     shape_refusal(w, h, s)?;
-    frames_refusal(exclusion, n, r)?;
+    let faults = Faults {
+        small: false,
+        excluded,
+        frames: bad_frames(n),
+        reference: n <= r,
+        percentile: false,
+        length: false,
+        room: false,
+        memory: false,
+        offset: false,
+        row: false,
+    };
+    // The other tests work with the number of frames.
+    if faults.frames || faults.reference {
+        return lowest(faults);
+    }
     let raster = 3 * (w * h);
     let all = n * raster;
     let pair = 9 * (s as usize + 1);
@@ -93,6 +96,6 @@ pub fn series_refusal(
         length: rasters != all,
         room: (offsets < sums) | ((counts < pairs) | (compared < pairs)),
         memory: short_memory(w, h, s, grey, words),
-        ..NONE
+        ..faults
     })
 }

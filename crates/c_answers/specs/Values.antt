@@ -1,7 +1,6 @@
 -- A call's answer as C gets it: a refusal number, and values through pointers.
 use Rattle.std.specs.Prelude.{ℕ, zero, suc, ℤ, Result, Ok, Err}
 use Rattle.rules.specs.declared.Offset.{Offset}
-use Rattle.rules.specs.declared.Refusal.{Refusal}
 
 -- what a pointer's place holds after a call with this refusal number: the value, or what it held
 abbrev pub value_after : {A : Type 0} → ℕ → A → A → A
@@ -9,7 +8,7 @@ value_after zero value before = value
 value_after (suc n) value before = before
 
 -- the same after a call with this answer
-abbrev pub value_in : {A : Type 0} → Result A Refusal → A → A
+abbrev pub value_in : {A E : Type 0} → Result A E → A → A
 value_in (Ok value) before = value
 value_in (Err refusal) before = before
 

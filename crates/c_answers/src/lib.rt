@@ -2,39 +2,39 @@
 #![tactic(auto)]
 
 ghost use Rattle.std.specs.Prelude.{◌≡◌};
-ghost use Rattle.rules.specs.RefusalNumbers.{number_in};
+ghost use Rattle.rules.specs.RefusalNumbers.{numbered};
 ghost use Rattle.c_answers.specs.Values.{offset, value_in};
 
-use rules::{Offset, Refusal};
+use rules::{Numbered, Offset};
 
 // The refusal number of an answer, 0 when the call was accepted.
-pub fn refusal_in(answer: Result<(), Refusal>) -> u32
-    ensures { result ≡ number_in answer }
+pub fn refusal_in<E: Numbered>(answer: Result<(), E>) -> u32
+    ensures { result ≡ numbered E.number answer }
 {
     match answer {
         Ok(()) => 0,
-        Err(refusal) => u32::from(refusal),
+        Err(refusal) => refusal.number(),
     }
 }
 
 // The same of an answer with a value, which goes behind the pointer. A refusal leaves that as it was.
-pub fn value_into<T: Copy>(answer: Result<T, Refusal>, place: &mut T) -> u32
+pub fn value_into<T: Copy, E: Numbered>(answer: Result<T, E>, place: &mut T) -> u32
     ensures value { place.new ≡ value_in answer place.old }
-    ensures number { result ≡ number_in answer }
+    ensures number { result ≡ numbered E.number answer }
 {
     match answer {
         Ok(value) => {
             *place = value;
             0
         }
-        Err(refusal) => u32::from(refusal),
+        Err(refusal) => refusal.number(),
     }
 }
 
 // The same of a pair's answer, an offset behind two pointers.
-pub fn moved_into(answer: Result<Offset, Refusal>, dx: &mut i32, dy: &mut i32) -> u32
+pub fn moved_into<E: Numbered>(answer: Result<Offset, E>, dx: &mut i32, dy: &mut i32) -> u32
     ensures offset { offset dx.new dy.new ≡ value_in answer (offset dx.old dy.old) }
-    ensures number { result ≡ number_in answer }
+    ensures number { result ≡ numbered E.number answer }
 {
     match answer {
         Ok(m) => {
@@ -42,6 +42,6 @@ pub fn moved_into(answer: Result<Offset, Refusal>, dx: &mut i32, dy: &mut i32) -
             *dy = m.dy;
             0
         }
-        Err(refusal) => u32::from(refusal),
+        Err(refusal) => refusal.number(),
     }
 }

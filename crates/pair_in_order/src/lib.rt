@@ -10,6 +10,7 @@ ghost use Rattle.rules.specs.Calls.{PairCall};
 use align_refusals::pair_refusal;
 use candidates::Ranking;
 use rasters::align_rasters;
+use refusals::exclusion_refusal;
 use rules::{Offset, Refusal, Setup};
 
 // The offset that moves the second frame onto the first, and the counts and compared numbers of every
@@ -32,7 +33,7 @@ pub fn pair_in_order(
         setup.w,
         setup.h,
         setup.s,
-        setup.exclusion,
+        exclusion_refusal(setup.exclusion),
         setup.percentile,
         first.len(),
         second.len(),

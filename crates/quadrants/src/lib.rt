@@ -9,6 +9,7 @@ ghost use Rattle.quadrants.specs.QuadrantsCalls.{QuadrantsCall};
 use candidates::places;
 use four_quadrants::align_quadrants;
 use quadrant_refusals::quadrants_refusal;
+use refusals::tolerance_refusal;
 use rules::{Exclusion, Order, Refusal, Setup};
 
 // The offsets of the four quadrants, and whether they tell of a turn. Among equal counts the least move is
@@ -39,7 +40,7 @@ pub fn quadrants(
         w,
         h,
         s,
-        setup.exclusion,
+        tolerance_refusal(tolerance),
         percentile,
         first.len(),
         second.len(),

@@ -6,10 +6,10 @@
 ghost use Rattle.std.specs.Prelude.{◌≡◌, OnOk};
 ghost use Rattle.rules.specs.Accepted.{SizeOk};
 ghost use Rattle.rules.specs.Calls.{exclusion_refusal};
-ghost use Rattle.rules.specs.RefusalNumbers.{number_in};
+ghost use Rattle.rules.specs.RefusalNumbers.{number_in, numbered};
 ghost use Rattle.rules.specs.Refusals.{◌when◌, ◌or_else◌, bad_size, bad_frames, bad_percentile, tolerance_refusal, band_refusal};
 
-use rules::{Exclusion, Refusal};
+use rules::{Exclusion, Numbered, Refusal};
 
 pub const MAX_SIDE: usize = 4096;
 
@@ -24,9 +24,9 @@ pub const MAX_FRAMES: usize = 16;
 // What is wrong with a call. A header, sizes and halvings (1 to 3) are tested before, since other tests
 // work with them; the common area (13) after, since it has to be worked out.
 #[derive(Clone, Copy)]
-pub struct Faults {
+pub struct Faults<E = Refusal> {
     pub small: bool, // 4: a side is too short for the halvings
-    pub excluded: Result<(), Refusal>, // what refuses the exclusion setting, in the place of 5
+    pub excluded: Result<(), E>, // what refuses the exclusion setting, in the place of 5
     pub frames: bool, // 6: the number of frames
     pub reference: bool, // 7: the reference is no frame
     pub percentile: bool, // 8: a percentile, or how many there are
@@ -51,9 +51,9 @@ pub const NONE: Faults = Faults {
 };
 
 // The order of the refusals.
-pub fn lowest(f: Faults) -> Result<(), Refusal>
-    ensures { number_in result ≡ 4 when f.small
-        or_else number_in f.excluded
+pub fn lowest<E: Numbered>(f: Faults<E>) -> Result<(), E>
+    ensures { numbered E.number result ≡ 4 when f.small
+        or_else numbered E.number f.excluded
         or_else 6 when f.frames
         or_else 7 when f.reference
         or_else 8 when f.percentile
@@ -64,32 +64,36 @@ pub fn lowest(f: Faults) -> Result<(), Refusal>
         or_else 14 when f.row }
 {
     if f.small {
-        return Err(Refusal::Small);
+        return Err(Refusal::Small.into());
     }
-    f.excluded?;
+    // A number of 0 refuses nothing.
+    match f.excluded {
+        Err(other) if other.number() != 0 => return Err(other),
+        _ => (),
+    }
     if f.frames {
-        return Err(Refusal::Frames);
+        return Err(Refusal::Frames.into());
     }
     if f.reference {
-        return Err(Refusal::Reference);
+        return Err(Refusal::Reference.into());
     }
     if f.percentile {
-        return Err(Refusal::Percentile);
+        return Err(Refusal::Percentile.into());
     }
     if f.length {
-        return Err(Refusal::Length);
+        return Err(Refusal::Length.into());
     }
     if f.room {
-        return Err(Refusal::Room);
+        return Err(Refusal::Room.into());
     }
     if f.memory {
-        return Err(Refusal::Memory);
+        return Err(Refusal::Memory.into());
     }
     if f.offset {
-        return Err(Refusal::Offset);
+        return Err(Refusal::Offset.into());
     }
     if f.row {
-        return Err(Refusal::Row);
+        return Err(Refusal::Row.into());
     }
     Ok(())
 }

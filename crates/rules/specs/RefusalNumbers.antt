@@ -20,10 +20,14 @@ number_of Refusal.Row = 14
 number_of Refusal.Band = 15
 number_of Refusal.Held = 16
 
--- the number of an answer, 0 where it is no refusal
+-- the number of an answer, 0 where it is no refusal; `number` is that of what refuses
+abbrev pub numbered : {A E : Type 0} → (E → ℕ) → Result A E → ℕ
+numbered number (Ok value) = 0
+numbered number (Err refusal) = number refusal
+
+-- the same where a refusal refuses
 abbrev pub number_in : {A : Type 0} → Result A Refusal → ℕ
-number_in (Ok value) = 0
-number_in (Err refusal) = number_of refusal
+number_in = numbered number_of
 
 -- an answer as documents 01 and 02 have it: its value, or its refusal's number
 abbrev pub coded : {A : Type 0} → Result A Refusal → Result A ℕ

@@ -1,7 +1,9 @@
 // The answers and settings that the offered calls share. The documents' rules themselves stand in specs/.
 #![tactic(auto)]
 
-ghost use Rattle.std.specs.Prelude.{◌≡◌};
+ghost use Rattle.std.specs.Prelude.{◌≡◌, ℕ};
+ghost use Rattle.std.proofs.Common.{ap};
+ghost use Rattle.rules.specs.declared.Refusal.{Refusal};
 ghost use Rattle.rules.specs.RefusalNumbers.{number_of};
 
 // Why a call is refused. As a number each is document 01's, or document 02's.
@@ -42,6 +44,38 @@ impl From<Refusal> for u32 {
 
     fn from(refusal: Refusal) -> u32 {
         refusal as u32
+    }
+}
+
+// What an answer is refused with: a refusal, or a number alone, so that another rule's number can stand
+// in the place of 5.
+pub trait Numbered: From<Refusal> + Copy {
+    ghost number: { Self → ℕ };
+
+    fn number(self) -> u32
+        ensures { result ≡ number self };
+
+    // A refusal keeps its number.
+    ghost keeps: { (refusal : Refusal) (e : Self) → Self.from_gives refusal e → number e ≡ number_of refusal };
+}
+
+impl Numbered for Refusal {
+    ghost number = { number_of };
+
+    ghost keeps = { λ _ _ is. ap number_of is };
+
+    fn number(self) -> u32 {
+        u32::from(self)
+    }
+}
+
+impl Numbered for u32 {
+    ghost number = { λ n. n };
+
+    ghost keeps = { λ _ _ is. is };
+
+    fn number(self) -> u32 {
+        self
     }
 }
 

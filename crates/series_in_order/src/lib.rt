@@ -11,6 +11,7 @@ ghost use Rattle.series_in_order.specs.Settings.{settings_of};
 use align_refusals::series_refusal;
 use aligning::align_series;
 use candidates::Ranking;
+use refusals::exclusion_refusal;
 use rules::{Refusal, Setup};
 
 // The offsets of all frames of a series from its reference, and the counts and compared numbers of its
@@ -36,7 +37,7 @@ pub fn series_in_order(
         setup.w,
         setup.h,
         setup.s,
-        setup.exclusion,
+        exclusion_refusal(setup.exclusion),
         n,
         r,
         percentiles,

@@ -18,19 +18,19 @@ returns-in_err-quadrants_refusal c =
     let p = err_from_is_err_and c.from_residual.result c.from_residual.ensures.1 in
     rw (p.1, p.2)
     (refused-left _ _ (four_offsets least_move_order (tolerance_setup a.w a.h a.s a.tolerance a.percentile) a.first.now a.second.now)
-    a.offsets.now a.grey.now a.words.now e.ensures (number-nonzero e.field-0.0))
+    a.offsets.now a.grey.now a.words.now (rw c.tolerance_refusal.ensures at e.ensures) (number-nonzero e.field-0.0))
 
 pub align_quadrants-turned-requires-clause-accepted : goal.align_quadrants-turned-requires-clause-accepted
 align_quadrants-turned-requires-clause-accepted c =
     let a = c.args in
     quadrants-ok a.w a.h a.s (Exclusion.Tolerance a.tolerance) a.percentile (length a.first.now) (length a.second.now) (length a.offsets.now)
-    (length a.grey.now) (length a.words.now) (sym c.in_ok-quadrants_refusal.ensures)
+    (length a.grey.now) (length a.words.now) (sym (rw c.tolerance_refusal.ensures at c.in_ok-quadrants_refusal.ensures))
 
 pub align_quadrants-turned-requires-clause-room : goal.align_quadrants-turned-requires-clause-room
 align_quadrants-turned-requires-clause-room c =
     let a = c.args in
     (unrefused a.w a.h a.s _ a.percentile (length a.first.now) (length a.second.now) (length a.offsets.now) (length a.grey.now) (length a.words.now)
-    (sym c.in_ok-quadrants_refusal.ensures)).room
+    (sym (rw c.tolerance_refusal.ensures at c.in_ok-quadrants_refusal.ensures))).room
 
 pub returns : goal.returns
 returns c =
@@ -38,4 +38,4 @@ returns c =
     let r = c.align_quadrants-turned in
     accepted-left _ _ least_move_order (tolerance_setup a.w a.h a.s a.tolerance a.percentile) a.first.now a.second.now
     a.offsets.now r.new.offsets a.grey.now _ a.words.now _ r.result r.result
-    (sym c.in_ok-quadrants_refusal.ensures) c.places-order.ensures refl r.ensures.turned r.ensures.offsets
+    (sym (rw c.tolerance_refusal.ensures at c.in_ok-quadrants_refusal.ensures)) c.places-order.ensures refl r.ensures.turned r.ensures.offsets

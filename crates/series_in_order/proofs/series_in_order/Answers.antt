@@ -17,14 +17,14 @@ returns-in_err-series_refusal c =
     let p = err_from_is_err_and c.from_residual.result c.from_residual.ensures.1 in
     rw (p.1, p.2)
     (refused-left _ _ (series_answer (arranged a.order.now.places) (settings_of a.setup a.n a.r a.percentiles.now) a.rasters.now)
-    a.offsets.now a.counts.now a.compared.now a.grey.now a.words.now e.ensures (number-nonzero e.field-0.0))
+    a.offsets.now a.counts.now a.compared.now a.grey.now a.words.now (rw c.exclusion_refusal.ensures at e.ensures) (number-nonzero e.field-0.0))
 
 pub align_series-requires : goal.align_series-requires
 align_series-requires c =
     let a = c.args in
     record {
       accepted = series-ok a.setup.w a.setup.h a.setup.s a.setup.exclusion a.n a.r a.percentiles.now (length a.rasters.now) (length a.offsets.now)
-          (length a.counts.now) (length a.compared.now) (length a.grey.now) (length a.words.now) (sym c.in_ok-series_refusal.ensures);
+          (length a.counts.now) (length a.compared.now) (length a.grey.now) (length a.words.now) (sym (rw c.exclusion_refusal.ensures at c.in_ok-series_refusal.ensures));
     }
 
 pub returns : goal.returns
@@ -33,4 +33,4 @@ returns c =
     let r = c.align_series in
     accepted-left _ (series_answer (arranged a.order.now.places) (settings_of a.setup a.n a.r a.percentiles.now) a.rasters.now)
     a.offsets.now _ a.counts.now _ a.compared.now _ a.grey.now _ a.words.now _
-    (sym c.in_ok-series_refusal.ensures) r.ensures.offsets r.ensures.counts r.ensures.compared
+    (sym (rw c.exclusion_refusal.ensures at c.in_ok-series_refusal.ensures)) r.ensures.offsets r.ensures.counts r.ensures.compared
