@@ -13,8 +13,8 @@ pub struct BitCounts {
     ghost counts_bits: { CountsBits counts },
 }
 
-// A table takes it whole, since an index into the constant itself would copy it.
-const COUNTS: [u8; 256] = [
+// The same as a constant. A table takes it whole, since an index into the constant itself would copy it.
+pub const BIT_COUNTS: [u8; 256] = [
     0, 1, 1, 2, 1, 2, 2, 3, 1, 2, 2, 3, 2, 3, 3, 4, 1, 2, 2, 3, 2, 3, 3, 4, 2, 3, 3, 4, 3, 4, 4, 5,
     1, 2, 2, 3, 2, 3, 3, 4, 2, 3, 3, 4, 3, 4, 4, 5, 2, 3, 3, 4, 3, 4, 4, 5, 3, 4, 4, 5, 4, 5, 5, 6,
     1, 2, 2, 3, 2, 3, 3, 4, 2, 3, 3, 4, 3, 4, 4, 5, 2, 3, 3, 4, 3, 4, 4, 5, 3, 4, 4, 5, 4, 5, 5, 6,
@@ -27,7 +27,7 @@ const COUNTS: [u8; 256] = [
 
 impl BitCounts {
     pub fn new() -> Self {
-        BitCounts { counts: COUNTS }
+        BitCounts { counts: BIT_COUNTS }
     }
 
     // Of the lowest byte of a word.

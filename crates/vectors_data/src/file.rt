@@ -59,8 +59,10 @@ impl<'a> DataFile<'a> {
         rest(self.bytes, number_at(self.bytes, POOL) as usize)
     }
 
+    // A group that is cut off has no name and no records.
     pub fn group(self, k: u32) -> Group<'a> {
-        let numbers = rest(self.bytes, HEADER_BYTES + GROUP_BYTES * k as usize);
+        let at = HEADER_BYTES + GROUP_BYTES * k as usize;
+        let numbers = part(self.bytes, at, GROUP_BYTES);
         let place = number_at(numbers, NAME) as usize;
         let length = number_at(numbers, NAME_LENGTH) as usize;
         Group {

@@ -24,7 +24,7 @@ impl Count {
 }
 
 // The group at hand and its records so far; the records of the groups before it.
-#[derive(Default, Drop)]
+#[derive(Clone, Copy, Default)]
 pub struct Tally {
     group: u32,
     so_far: Count,
