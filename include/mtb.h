@@ -55,7 +55,7 @@
  * STACK
  *   Bytes, with stacked arguments and return address:
  *     mtb_pair, mtb_pair_ward, mtb_pair_band          6848 + 240*s, so 8768 at most
- *     mtb_series, mtb_series_ward, mtb_series_band    7056 + 240*s, so 8976 at most
+ *     mtb_series, mtb_series_ward, mtb_series_band    7040 + 240*s, so 8960 at most
  *     mtb_live_add                                    7296 + 240*s, so 9216 at most
  *     mtb_quadrants                                   7360 + 240*s, so 9280 at most
  *     mtb_threshold 6272, mtb_difference 1024, mtb_shift 672; every other function: below 400
